@@ -25,20 +25,20 @@ _iocm() {
     esac
     case $command in
         "") options="$commands --help --version" ;;
-        check) options+=" --quiet --all" ;;
-        show) options+=" --quiet $filters" ;;
+        check) options+=" --quiet --json --all" ;;
+        show) options+=" --quiet --json $filters" ;;
         list)
             options+=" --quiet $filters" most=2
             ((files == 0)) && [[ $word != -* ]] && options="images paths units devices" most=0
             ;;
-        write) options+=" --quiet" ;;
-        diff) options+=" --quiet --old" most=2 ;;
+        write) options+=" --quiet --json" ;;
+        diff) options+=" --quiet --json --old" most=2 ;;
         vary)
             options+=" --quiet --image"
             ((files == 1)) && options="offline online" most=0
             ;;
-        apply) options+=" --quiet --heap $reports $filters" most=2 ;;
-        run) options+=" --quiet --heap" most=9999 ;;
+        apply) options+=" --quiet --json --heap $reports $filters" most=2 ;;
+        run) options+=" --quiet --json --heap" most=9999 ;;
         explain) options+=" $(iocm explain 2>/dev/null | cut -d: -f1)" most=0 ;;
         help) options=$commands most=0 ;;
         value) most=0 ;;

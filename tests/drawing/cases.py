@@ -1,6 +1,7 @@
 """A case: what was drawn under one number, the runs of the program on it, and what is wrong with them."""
 import os
 
+from .lines import HOW_OFTEN, fault_of_lines, is_in_lines
 from .places import said_places, shown_line
 from .shapes import fault_of_form, fault_of_remark, kind_of
 
@@ -40,7 +41,16 @@ class Case:
             self.need("form", not wrong, wrong)
             wrong = "" if wrong else fault_of_remark(answer)
             self.need("remark", not wrong, wrong)
+            if is_in_lines(words) and self.dice.random() < HOW_OFTEN:
+                self.try_lines(words, source, answer)
         return answer
+
+    def try_lines(self, words, source, answer):
+        """Lines of JSON say what the text says, with the same status."""
+        lines = self.program.run(*words, "--json", "--quiet", source=source)
+        wrong = fault_of_lines(words, lines.out, answer.out)
+        is_right = lines.status == answer.status and not wrong
+        self.need("lines", is_right, f"with --json: status {lines.status}: {wrong}")
 
     def run_only(self, *words, full=False):
         """Runs the program on words that it can't do; its output may be a full device."""

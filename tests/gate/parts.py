@@ -29,6 +29,7 @@ SIDE_BY_SIDE = (
     Part("all-self", "tests/all --self", "all: ", "cases"),
     Part("mutants-self", "tests/mutants --self", "mutants: ", "cases"),
     Part("messages", f"tests/messages {PROGRAM}", "messages: ", "cases"),
+    Part("lines", f"tests/lines {PROGRAM}", "lines: ", "cases", "jq"),
     Part("pages", "tests/pages", "pages: ", "cases"),
     Part("layout", "tests/layout", "layout: ", "cases", "rattle"),
     Part("layout-self", "tests/layout --self", "layout: ", "cases", "rattle"),

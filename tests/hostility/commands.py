@@ -42,6 +42,8 @@ def short_words():
     yield ["apply", "base.deck", "grown.change"]
     for report in REPORTS:
         yield ["apply", "base.deck", "grown.change", report]
+    yield ["apply", "base.deck", "grown.change", "--altered", "--json"]
+    yield ["show", "base.deck", "--json"]
     yield ["apply", "base.deck", "refused.change"]
     yield ["apply", "base.deck", "refused-in-a-group.change", "--quiet"]
     yield script_words("two-images-two-operators.script")

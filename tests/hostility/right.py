@@ -6,6 +6,7 @@ from legality.playing import read_case
 from legality.search import Illegal, TooMany, outputs_of
 
 NO_MEMORY = (1, b"refused M1\n")
+NO_MEMORY_LINE = (1, b'{"rule":"M1","title":"not enough storage","type":"refused"}\n')
 M1_SAID = (b"", b"not enough storage (M1)\n  see: iocm explain M1\n")
 L5 = b"fault L5\n"
 L5_SAID = b": a file can't be read (L5)\n  see: iocm explain L5\n"
@@ -41,7 +42,9 @@ class Right:
             return False
 
     def is_without_memory(self, got):
-        return got[:2] == NO_MEMORY and got.err in M1_SAID
+        """Where memory is missing for the words of the command line, the form isn't known."""
+        is_in_lines = "--json" in self.command.words
+        return got[:2] in (NO_MEMORY, *[NO_MEMORY_LINE][:is_in_lines]) and got.err in M1_SAID
 
     def is_unread(self, got, has_to_name=False):
         """Whether an answer says L5 and nothing else, or which file it is, too."""

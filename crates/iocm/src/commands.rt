@@ -5,14 +5,16 @@ ghost use Rattle.iocm_answer.specs.Commands.{HasDeck};
 
 use crate::failure::{Ended, Failure};
 use crate::telling::{
-    Talk, explain_unknown, is_from, note_missing, remark, remark_on_edits, remark_on_nothing,
+    Talk, explain_unknown, note_missing, remark, remark_on_edits, remark_on_nothing,
     remark_on_others, tell,
 };
 use crate::texts::{Role, Text, open_text, open_texts, read_text, read_texts, title_of_text};
-use iocm_answer::{Answer, begin, finish};
+use iocm_answer::{Answer, Manner, begin, finish};
 use iocm_command::{Breaches, Command};
 use iocm_console::Refusal;
 use iocm_explain::{Unexplained, explain};
+use iocm_lines::Form;
+use iocm_types::Rule;
 use std::rt::Files;
 use std::sync::Wait;
 use std::thread::Threads;
@@ -24,6 +26,8 @@ pub struct Call<'c, 'a> {
     pub command: &'c Command<'a>,
     /// The names of its files, that of the deck first.
     pub files: &'c [&'a str],
+    /// The form in which it is printed.
+    pub form: Form,
     /// What standard error is to say.
     pub talk: Talk,
 }
@@ -52,7 +56,7 @@ fn explain_rules<'a, R: Print + Eprint + AllocGlobal>(
     rules: &[&'a str],
 ) -> Result<Ended, Failure<'a>> {
     match explain(rt.alloc(), rules) {
-        Ok(explained) => Ok(tell(rt, &Ok(Answer::Explained(explained)))),
+        Ok(explained) => Ok(tell(rt, Manner::TEXT, &Ok(Answer::Explained(explained)))),
         Err(Unexplained::Unknown(word)) => Ok(explain_unknown(rt, word)),
         Err(Unexplained::Memory) => Err(Failure::Memory),
     }
@@ -72,7 +76,7 @@ fn answer_files<'a, R: Files + Input + Print + Eprint + AllocGlobal + Threads + 
     let file = open_text(rt, *name)?;
     let files = open_texts(rt, names)?;
     let bytes = read_text(rt, *name, file)?;
-    let deck = Text::deck(*name, &bytes);
+    let deck = Text::new(*name, role_of(call.command, 0), &bytes);
     let begun = match begin(rt.alloc(), call.command, &bytes) {
         Ok(begun) => begun,
         Err(why) => return Ok(conclude(rt, call, &Texts { deck, others: &[] }, &Err(why))),
@@ -83,7 +87,7 @@ fn answer_files<'a, R: Files + Input + Print + Eprint + AllocGlobal + Threads + 
             note_missing(rt, *name, filters, config);
         }
     }
-    let said = finish(rt, rt.alloc(), call.command, begun, &others);
+    let said = finish(rt, rt.alloc(), call.form, call.command, begun, &others);
     let others = others.as_slice();
     Ok(conclude(rt, call, &Texts { deck, others }, &said))
 }
@@ -95,11 +99,20 @@ fn conclude<R: Print + Eprint + AllocGlobal>(
     texts: &Texts<'_>,
     said: &Result<Answer<'_>, Refusal>,
 ) -> Ended {
-    let ended = tell(rt, said);
+    let from = match said {
+        Ok(_) => Some(0),
+        Err(why) => source_of(rt, call, texts.others, why),
+    };
+    let input = match from {
+        Some(place) => Some(role_of(call.command, place).input()),
+        None => None,
+    };
+    let form = call.form;
+    let ended = tell(rt, Manner { form, input }, said);
     if call.talk == Talk::All && matches!(ended, Ended::Printed(_)) {
         match said {
             Ok(answer) => remark_on_answer(rt, &texts.deck, answer),
-            Err(why) => remark_on_refusal(rt, call, texts, why),
+            Err(why) => remark_on_refusal(rt, call, texts, from, why),
         }
     }
     ended
@@ -118,72 +131,120 @@ fn remark_on_answer<R: Eprint + AllocGlobal>(rt: &R, deck: &Text<'_, '_>, answer
                 remark(rt, deck, &Refusal::from(*first));
             }
         }
+        Answer::Faults(found) => {
+            if let Some(first) = found.first() {
+                remark(rt, deck, &Refusal::from(*first));
+                remark_on_others(rt, deck, Refusal::from(*first));
+            }
+        }
         Answer::Difference(difference) => remark_on_edits(rt, difference.edits),
         _ => (),
     }
 }
 
-/// Says where a refusal comes from: from the deck, or from a text after it.
+/// Says where a refusal comes from, if it comes from the text of this place.
 fn remark_on_refusal<R: Eprint + AllocGlobal>(
     rt: &R,
     call: &Call<'_, '_>,
     texts: &Texts<'_>,
+    from: Option<usize>,
     why: &Refusal,
 ) {
-    if texts.others.is_empty() {
-        remark(rt, &texts.deck, why);
-        if matches!(
-            call.command,
-            Command::Check {
-                breaches: Breaches::All,
-                ..
-            }
-        ) {
-            remark_on_others(rt, &texts.deck, *why);
-        }
-    } else if !is_from_others(rt, call, texts.others, why) {
-        remark_on_nothing(rt, why);
+    match from {
+        Some(0) => remark_on_deck(rt, call, &texts.deck, why),
+        Some(place) => remark_on_other(rt, call, texts.others, place, why),
+        None => remark_on_nothing(rt, why),
     }
 }
 
-/// Whether a refusal comes from a text after the deck; if so, it is said from where in it. Change decks
-/// are asked before a script.
-fn is_from_others<R: Eprint + AllocGlobal>(
+/// Says where in the deck a refusal comes from; for `check --all` all such places.
+fn remark_on_deck<R: Eprint + AllocGlobal>(
     rt: &R,
     call: &Call<'_, '_>,
-    others: &[Vec<u8>],
+    deck: &Text<'_, '_>,
     why: &Refusal,
-) -> bool {
-    for place in 1..others.len() {
-        if is_from_other(rt, call, others, place, why) {
-            return true;
+) {
+    remark(rt, deck, why);
+    if matches!(
+        call.command,
+        Command::Check {
+            breaches: Breaches::All,
+            ..
         }
+    ) {
+        remark_on_others(rt, deck, *why);
     }
-    is_from_other(rt, call, others, 0, why)
 }
 
-/// Whether a refusal comes from the text of this place after the deck.
-fn is_from_other<R: Eprint + AllocGlobal>(
+/// Says where in the text of this place, behind the deck, a refusal comes from.
+fn remark_on_other<R: Eprint + AllocGlobal>(
     rt: &R,
     call: &Call<'_, '_>,
     others: &[Vec<u8>],
     place: usize,
     why: &Refusal,
-) -> bool {
-    match (call.files.get(place.saturating_add(1)), others.get(place)) {
+) {
+    match (call.files.get(place), others.get(place.saturating_sub(1))) {
         (Some(name), Some(bytes)) => {
             let role = role_of(call.command, place);
-            is_from(rt, &Text::new(*name, role, bytes), why)
+            remark(rt, &Text::new(*name, role, bytes), why);
         }
-        _ => false,
+        _ => remark_on_nothing(rt, why),
     }
 }
 
-/// What the text of this place after the deck is to a command.
+/// The place of the text that a refusal comes from: 0, the deck, as long as no other was read; else that
+/// of a change deck in which it has an origin, or 1. That memory is missing comes from none.
+fn source_of<R: AllocGlobal>(
+    rt: &R,
+    call: &Call<'_, '_>,
+    others: &[Vec<u8>],
+    why: &Refusal,
+) -> Option<usize> {
+    if why.number == Rule::M1 {
+        return None;
+    }
+    if others.is_empty() {
+        return Some(0);
+    }
+    for before in 1..others.len() {
+        let place = before.saturating_add(1);
+        if is_from_other(rt, call, others, place, why)? {
+            return Some(place);
+        }
+    }
+    Some(1)
+}
+
+/// Whether a refusal comes from the text of this place, behind the deck; none if memory is missing.
+fn is_from_other<R: AllocGlobal>(
+    rt: &R,
+    call: &Call<'_, '_>,
+    others: &[Vec<u8>],
+    place: usize,
+    why: &Refusal,
+) -> Option<bool> {
+    match (call.files.get(place), others.get(place.saturating_sub(1))) {
+        (Some(name), Some(bytes)) => {
+            let role = role_of(call.command, place);
+            match Text::new(*name, role, bytes).origin_of(rt.alloc(), *why) {
+                Ok(origin) => Some(origin.is_some()),
+                Err(_) => None,
+            }
+        }
+        _ => Some(false),
+    }
+}
+
+/// What the text of this place is to a command: 0 is the deck.
 fn role_of(command: &Command<'_>, place: usize) -> Role {
     match command {
-        Command::Run { changes, .. } if place == 0 => Role::Script(changes.len() as u64),
-        Command::Run { .. } | Command::Apply { .. } => Role::Change,
+        Command::Diff { .. } if place == 0 => Role::Old,
+        Command::Diff { .. } => Role::New,
+        _ if place == 0 => Role::Deck,
+        Command::Run { changes, .. } if place == 1 => Role::Script(changes.len() as u64),
+        Command::Run { .. } => Role::ChangeOf(place.saturating_sub(1) as u64),
+        Command::Apply { .. } => Role::Change,
         _ => Role::Deck,
     }
 }

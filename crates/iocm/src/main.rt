@@ -30,6 +30,7 @@ use clap::error::ErrorKind;
 use commands::{Call, carry_out};
 use failure::{Ended, Failure};
 use iocm_command::{Understood, command_of};
+use iocm_lines::Form;
 use std::process::ExitCode;
 use std::rt::{Env, Files};
 use std::sync::Wait;
@@ -42,13 +43,22 @@ fn main(rt: HostRuntime) -> ExitCode {
     let words: Vec<String> = match words(&rt) {
         Ok(words) => words,
         Err(error) if error.kind() == io::ErrorKind::OutOfMemory => {
-            return end(&rt, Talk::All, Failure::Memory);
+            return end(&rt, Form::Text, Talk::All, Failure::Memory);
         }
         Err(_) => return explain_usage(&rt, "a word of the command line is not UTF-8"),
     };
     match command_of(rt.alloc(), words.as_slice()) {
         Ok(understood) => perform(&rt, &understood),
-        Err(error) => explain_line(&rt, &error),
+        Err(error) => explain_line(&rt, form_of(&words), &error),
+    }
+}
+
+/// The form that words state, which clap has no memory to read.
+fn form_of(words: &[String]) -> Form {
+    if words.iter().any(|word| word.as_str() == "--json") {
+        Form::Json
+    } else {
+        Form::Text
     }
 }
 
@@ -67,8 +77,9 @@ fn perform<R: Files + Input + Print + Eprint + AllocGlobal + Threads + Wait + Sy
     } else {
         Talk::All
     };
+    let form = understood.form;
     let Ok(files) = understood.command.files(rt.alloc()) else {
-        return end(rt, talk, Failure::Memory);
+        return end(rt, form, talk, Failure::Memory);
     };
     if count_inputs(&files) > 1 {
         return explain_usage(rt, "only one file can be read from standard input");
@@ -76,19 +87,24 @@ fn perform<R: Files + Input + Print + Eprint + AllocGlobal + Threads + Wait + Sy
     let call = Call {
         command: &understood.command,
         files: &files,
+        form,
         talk,
     };
     match carry_out(rt, &call) {
         Ok(ended) => code_of(rt, ended),
-        Err(failure) => end(rt, talk, failure),
+        Err(failure) => end(rt, form, talk, failure),
     }
 }
 
 /// Prints what `clap` says of the command line: help on standard output, a mistake on standard
-/// error.
-fn explain_line<R: Print + Eprint + AllocGlobal>(rt: &R, error: &clap::Error) -> ExitCode {
+/// error. That memory is missing is printed in this form.
+fn explain_line<R: Print + Eprint + AllocGlobal>(
+    rt: &R,
+    form: Form,
+    error: &clap::Error,
+) -> ExitCode {
     if error.kind() == ErrorKind::OutOfMemory {
-        return end(rt, Talk::All, Failure::Memory);
+        return end(rt, form, Talk::All, Failure::Memory);
     }
     match error.print(rt) {
         Ok(()) if error.use_stderr() => ExitCode::from(USAGE),

@@ -3,11 +3,12 @@
 
 use crate::failure::{Ended, Failure};
 use crate::texts::{Text, title_of_text};
-use iocm_answer::{Answer, print};
+use iocm_answer::{Answer, Manner, print};
 use iocm_columns::{Card, cards};
 use iocm_config::Config;
 use iocm_console::{About, Output, Refusal};
 use iocm_filter::{Filters, Note, image_names, missing};
+use iocm_lines::Form;
 use iocm_origin::{Origin, Remark, all_faults, line_of};
 use iocm_types::{Fault, Rule};
 use std::io::{BufWriter, ErrorKind};
@@ -32,26 +33,34 @@ pub enum Talk {
     Quiet,
 }
 
-/// Prints what a command gives, or its refusal. If memory is missing for the program's own buffer,
-/// it is printed without one.
-pub fn tell<R: Print + AllocGlobal>(rt: &R, said: &Result<Answer<'_>, Refusal>) -> Ended {
+/// Prints what a command gives, or its refusal, in a manner. If memory is missing for the program's own
+/// buffer, it is printed without one.
+pub fn tell<R: Print + AllocGlobal>(
+    rt: &R,
+    manner: Manner,
+    said: &Result<Answer<'_>, Refusal>,
+) -> Ended {
     let Ok(writer) = BufWriter::new(rt.alloc(), io::writer(rt)) else {
-        return tell_unbuffered(rt, said);
+        return tell_unbuffered(rt, manner, said);
     };
     let mut output = Output::new(writer);
-    match print(said, &mut output) {
+    match print(manner, said, &mut output) {
         Ok(status) => Ended::Printed(ExitCode::from(status.code())),
         Err(_) => Ended::Unwritten(output.failure()),
     }
 }
 
 /// Prints what a command gives without a buffer, which needs no memory.
-fn tell_unbuffered<R: Print + AllocGlobal>(rt: &R, said: &Result<Answer<'_>, Refusal>) -> Ended {
+fn tell_unbuffered<R: Print + AllocGlobal>(
+    rt: &R,
+    manner: Manner,
+    said: &Result<Answer<'_>, Refusal>,
+) -> Ended {
     let Ok(writer) = BufWriter::with_capacity(rt.alloc(), 0, io::writer(rt)) else {
         unreachable!()
     };
     let mut output = Output::new(writer);
-    match print(said, &mut output) {
+    match print(manner, said, &mut output) {
         Ok(status) => Ended::Printed(ExitCode::from(status.code())),
         Err(_) => Ended::Unwritten(output.failure()),
     }
@@ -71,9 +80,17 @@ pub fn code_of<R: Eprint>(rt: &R, ended: Ended) -> ExitCode {
 }
 
 /// Says why a command has no answer, and gives the exit status.
-pub fn end<R: Print + Eprint + AllocGlobal>(rt: &R, talk: Talk, failure: Failure<'_>) -> ExitCode {
+pub fn end<R: Print + Eprint + AllocGlobal>(
+    rt: &R,
+    form: Form,
+    talk: Talk,
+    failure: Failure<'_>,
+) -> ExitCode {
     match failure {
-        Failure::Memory => code_of(rt, tell(rt, &Err(Refusal::NO_MEMORY))),
+        Failure::Memory => {
+            let manner = Manner { form, input: None };
+            code_of(rt, tell(rt, manner, &Err(Refusal::NO_MEMORY)))
+        }
         Failure::Unread(name) => {
             let _ = eprintln!(rt; "fault L5");
             if talk == Talk::All {
@@ -93,24 +110,12 @@ const UNREAD: Refusal = Refusal {
 
 /// Says of a refusal what it is, and from where in a text it comes, if it comes from there.
 pub fn remark<R: Eprint + AllocGlobal>(rt: &R, text: &Text<'_, '_>, why: &Refusal) {
-    if !is_from(rt, text, why) {
-        remark_on_nothing(rt, why);
-    }
-}
-
-/// Whether a refusal comes from a text; if so, it is said from where in it. That memory is missing
-/// comes from none.
-pub fn is_from<R: Eprint + AllocGlobal>(rt: &R, text: &Text<'_, '_>, why: &Refusal) -> bool {
-    if why.number == Rule::M1 {
-        return false;
-    }
     match text.origin_of(rt.alloc(), *why) {
-        Ok(Some(origin)) => {
+        Ok(Some(origin)) if why.number != Rule::M1 => {
             let line = shown_line(text.bytes, origin, *why);
             say(rt, Some(text.name), origin, *why, line);
-            true
         }
-        _ => false,
+        _ => remark_on_nothing(rt, why),
     }
 }
 

@@ -4,6 +4,7 @@
 use crate::failure::Failure;
 use iocm_columns::Device;
 use iocm_console::Refusal;
+use iocm_lines::Input as InputText;
 use iocm_origin::{Origin, origin_in_change, origin_in_deck, origin_in_script};
 use iocm_types::{Fault, Rule};
 use std::alloc::{AllocError, Global};
@@ -23,10 +24,30 @@ const INPUT: &str = "standard input";
 pub enum Role {
     /// A configuration deck.
     Deck,
+    /// The first of two decks that are compared.
+    Old,
+    /// The second of them.
+    New,
     /// A change deck.
     Change,
+    /// The change deck of this number, counted from 1, on a command line with a script.
+    ChangeOf(u64),
     /// A script, on a command line with so many change decks.
     Script(u64),
+}
+
+impl Role {
+    /// The text by its name in lines of JSON.
+    pub fn input(self) -> InputText {
+        match self {
+            Role::Deck => InputText::Deck,
+            Role::Old => InputText::Old,
+            Role::New => InputText::New,
+            Role::Change => InputText::Change,
+            Role::ChangeOf(number) => InputText::ChangeOf(number),
+            Role::Script(_) => InputText::Script,
+        }
+    }
 }
 
 /// A text that was read.
@@ -46,16 +67,11 @@ impl<'n, 'b> Text<'n, 'b> {
         Text { name, role, bytes }
     }
 
-    /// A configuration deck.
-    pub fn deck(name: &'n str, bytes: &'b [u8]) -> Self {
-        Text::new(name, Role::Deck, bytes)
-    }
-
     /// Where in the text a refusal comes from, if it comes from there.
     pub fn origin_of(&self, alloc: Global, why: Refusal) -> Result<Option<Origin>, AllocError> {
         match self.role {
-            Role::Deck => origin_in_deck(alloc, self.bytes, why),
-            Role::Change => origin_in_change(alloc, self.bytes, why),
+            Role::Deck | Role::Old | Role::New => origin_in_deck(alloc, self.bytes, why),
+            Role::Change | Role::ChangeOf(_) => origin_in_change(alloc, self.bytes, why),
             Role::Script(changes) => origin_in_script(alloc, self.bytes, changes, why),
         }
     }

@@ -6,13 +6,15 @@ use Rattle.iocm_model.specs.Operation.State.{State}
 use Rattle.iocm_plant.specs.Refusing.{IsDue}
 use Rattle.iocm_activate.specs.Done.{refusal_in}
 use Rattle.iocm_console.specs.Refusal.{no_memory, of_change}
-use Rattle.iocm_console.specs.Shown.{refused}
+use Rattle.iocm_answer.specs.declared.manner.Manner.{Manner}
+use Rattle.iocm_answer.specs.Manner.{refused}
 use Rattle.iocm_answer.specs.Commands.Apply.{made}
 use Rattle.iocm_answer.specs.Asked.{Question}
 
 -- the refusal of a change that is due, or lack of memory
-pub due_made : (asked : Question) (s : State) (o : Outcome) (why : Refused) → IsDue (refusal_in o) why
-    → (refused (of_change why) ≡ made asked s o) ⊎ (of_change why ≡ no_memory)
-due_made asked s o why (inr none) = inr (ap of_change none)
-due_made asked s (Ok r) why (inl due) = cc
-due_made asked s (Err e) why (inl due) = let same : e ≡ why = cc in inl (ap (λ w. refused (of_change w)) (sym same))
+pub due_made : (m : Manner) (asked : Question) (s : State) (o : Outcome) (why : Refused) → IsDue (refusal_in o) why
+    → (refused m (of_change why) ≡ made m asked s o) ⊎ (of_change why ≡ no_memory)
+due_made m asked s o why (inr none) = inr (ap of_change none)
+due_made m asked s (Ok r) why (inl due) = cc
+due_made m asked s (Err e) why (inl due) =
+    let same : e ≡ why = cc in inl (ap (λ w. refused m (of_change w)) (sym same))

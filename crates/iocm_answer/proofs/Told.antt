@@ -15,10 +15,12 @@ use Rattle.iocm_console.specs.declared.status.Status.{Status}
 use Rattle.iocm_console.specs.declared.status.Status.TheVariants.{Done}
 use Rattle.iocm_console.specs.Output.{Says}
 use Rattle.iocm_console.specs.Refusal.{no_memory, ◌>>-◌}
-use Rattle.iocm_console.specs.Shown.{Shown, refused, shown_or_refused}
+use Rattle.iocm_console.specs.Shown.{Shown}
 use Rattle.iocm_answer.specs.declared.answer.Answer.{Answer}
 use Rattle.iocm_answer.specs.declared.whole.Unanswered.{Unanswered}
 use Rattle.iocm_answer.specs.declared.whole.Unanswered.TheVariants.{Refused, Unread}
+use Rattle.iocm_answer.specs.declared.manner.Manner.{Manner}
+use Rattle.iocm_answer.specs.Manner.{refused, shown_or_refused}
 use Rattle.iocm_answer.specs.Answer.{shown}
 use Rattle.iocm_answer.specs.Commands.{IsMeant}
 use Rattle.iocm_answer.specs.Commands.Run.{IsOfMachine, IsOfOpened, ShowsOne}
@@ -60,84 +62,84 @@ pub handed : {A : Type 0} (given : Result A Refusal) (why : Refusal) (P : Refusa
     → IsErr given × IsErrAnd given (λ e. e ≡ why) → IfErr given P
 handed given why P is same = subst (λ r. IfErr r P) (sym (handed_on given why same)) is
 
-module _ (Is : Shown → Type 0) (given : Result Answer Unanswered) where
+module _ (m : Manner) (Is : Shown → Type 0) (given : Result Answer Unanswered) where
   -- a text isn't read
   pub tells_stop : (why : Unanswered) (Short : Type 0) → IsErr given × IsErrAnd given (λ e. e ≡ why)
-      → StopsFor ⊥ Short why → Tells given Is
-  tells_stop why Short is stops = subst (λ r. Tells r Is) (sym (handed_on given why is)) (go why stops)
+      → StopsFor ⊥ Short why → Tells m given Is
+  tells_stop why Short is stops = subst (λ r. Tells m r Is) (sym (handed_on given why is)) (go why stops)
     where
-      go : (w : Unanswered) → StopsFor ⊥ Short w → Tells (Err w) Is
+      go : (w : Unanswered) → StopsFor ⊥ Short w → Tells m (Err w) Is
       go (Refused why) (inl none) = absurd none
       go (Refused why) (inr memory) = inr memory
       go Unread stops = tt
 
   -- a deck is refused
   pub tells_refusal : (why : Refusal) → IsErr given × IsErrAnd given (λ e. e ≡ Refused why)
-      → Is (refused why) ⊎ (why ≡ no_memory) → Tells given Is
-  tells_refusal why is told = subst (λ r. Tells r Is) (sym (handed_on given (Refused why) is)) told
+      → Is (refused m why) ⊎ (why ≡ no_memory) → Tells m given Is
+  tells_refusal why is told = subst (λ r. Tells m r Is) (sym (handed_on given (Refused why) is)) told
 
   -- what is said is given
   pub tells_said : (P : Shown → Type 0) (said : Result Answer Refusal) → given ≡ given_of said
-      → ((what : Shown) → P what → Is what) → ShowsOne said P → Tells given Is
-  tells_said P said is so shows = subst (λ r. Tells r Is) (sym is) (go said shows)
+      → ((what : Shown) → P what → Is what) → ShowsOne m said P → Tells m given Is
+  tells_said P said is so shows = subst (λ r. Tells m r Is) (sym is) (go said shows)
     where
-      go : (s : Result Answer Refusal) → ShowsOne s P → Tells (given_of s) Is
-      go (Ok answer) (inl told) = so (shown answer) told
+      go : (s : Result Answer Refusal) → ShowsOne m s P → Tells m (given_of s) Is
+      go (Ok answer) (inl told) = so (shown m answer) told
       go (Ok answer) (inr memory) = cc
-      go (Err why) (inl told) = inl (so (refused why) told)
+      go (Err why) (inl told) = inl (so (refused m why) told)
       go (Err why) (inr memory) = inr (let same : why ≡ no_memory = cc in same)
 
 -- ---- what is due of a deck and of texts after it
 
 -- what is shown of what is there is shown of what is due
-pub shown_due : {A : Type 0} (show : A → Shown) (due : Result A Refusal) (x : A) (what : Shown) → due ≡ Ok x
-    → what ≡ show x → what ≡ shown_or_refused show due
-shown_due show due x what is shows = shows ∙ sym (ap (shown_or_refused show) is)
+pub shown_due : {A : Type 0} (m : Manner) (show : A → Shown) (due : Result A Refusal) (x : A) (what : Shown)
+    → due ≡ Ok x → what ≡ show x → what ≡ shown_or_refused m show due
+shown_due m show due x what is shows = shows ∙ sym (ap (shown_or_refused m show) is)
 
 -- the machine of a script isn't opened
-pub unopened_due : (due : Result Configuration Refusal) (changes : List (List ℕ)) (script : List ℕ) (why : Refusal)
-    → (due >>- λ c. Ok (opening_state c)) ≡ Err why → IsOfOpened due changes script (refused why)
-unopened_due (Ok c) changes script why is = cc
-unopened_due (Err w) changes script why is = let same : why ≡ w = cc in ap refused same
+pub unopened_due : (m : Manner) (due : Result Configuration Refusal) (changes : List (List ℕ)) (script : List ℕ)
+    (why : Refusal) → (due >>- λ c. Ok (opening_state c)) ≡ Err why → IsOfOpened m due changes script (refused m why)
+unopened_due m (Ok c) changes script why is = cc
+unopened_due m (Err w) changes script why is = let same : why ≡ w = cc in ap (refused m) same
 
 -- what comes of a machine comes of the deck of which it was opened
-pub run_due : (due : Result Configuration Refusal) (s : State) (changes : List (List ℕ)) (script : List ℕ)
-    (shown : Shown) → (due >>- λ c. Ok (opening_state c)) ≡ Ok s → IsOfMachine s.config changes script shown
-    → IsOfOpened due changes script shown
-run_due (Err why) s changes script shown is one = cc
-run_due (Ok c) s changes script shown is one =
+pub run_due : (m : Manner) (due : Result Configuration Refusal) (s : State) (changes : List (List ℕ)) (script : List ℕ)
+    (shown : Shown) → (due >>- λ c. Ok (opening_state c)) ≡ Ok s → IsOfMachine m s.config changes script shown
+    → IsOfOpened m due changes script shown
+run_due m (Err why) s changes script shown is one = cc
+run_due m (Ok c) s changes script shown is one =
     let same : opening_state c ≡ s = cc in
-    subst (λ k. IsOfMachine k changes script shown) (sym (ap (λ x. x.config) same)) one
+    subst (λ k. IsOfMachine m k changes script shown) (sym (ap (λ x. x.config) same)) one
 
 -- ---- what is printed
 
-module _ {W : Type 0} (contents : W → Option (List ℕ)) (output output' : Output W) where
+module _ {W : Type 0} (m : Manner) (contents : W → Option (List ℕ)) (output output' : Output W) where
   -- something of which this holds, or only that memory is missing
   says_one : (given : Result Answer Unanswered) (result : Result Status ConsoleError) (Is : Shown → Type 0)
-      → Tells given Is → IfOk result (SaysGiven contents output output' given)
-      → IfOk result (SaysOne contents output output' Is)
+      → Tells m given Is → IfOk result (SaysGiven m contents output output' given)
+      → IfOk result (SaysOne m contents output output' Is)
   says_one given (Err e) Is tells says = tt
-  says_one (Ok answer) (Ok status) Is tells says = inl (shown answer, tells, says)
-  says_one (Err (Refused why)) (Ok status) Is (inl is) says = inl (refused why, is, says)
+  says_one (Ok answer) (Ok status) Is tells says = inl (shown m answer, tells, says)
+  says_one (Err (Refused why)) (Ok status) Is (inl is) says = inl (refused m why, is, says)
   says_one (Err (Refused why)) (Ok status) Is (inr memory) says =
-      inr (subst (λ w. Says contents output output' (refused w) status) memory says)
+      inr (subst (λ w. Says contents output output' (refused m w) status) memory says)
   says_one (Err Unread) (Ok status) Is tells says = absurd says
 
   -- a text was read to its end, or only that memory is missing was printed
   whole : (given : Result Answer Unanswered) (result : Result Status ConsoleError) (First Short : Type 0)
       → IfOk given (λ answer. First) → IfErr given (StopsFor First Short)
-      → IfOk result (SaysGiven contents output output' given)
-      → IfOk result (λ status. First ⊎ Says contents output output' (refused no_memory) status)
+      → IfOk result (SaysGiven m contents output output' given)
+      → IfOk result (λ status. First ⊎ Says contents output output' (refused m no_memory) status)
   whole given (Err e) First Short read stops says = tt
   whole (Ok answer) (Ok status) First Short read stops says = inl read
   whole (Err (Refused why)) (Ok status) First Short read (inl first) says = inl first
   whole (Err (Refused why)) (Ok status) First Short read (inr memory) says =
-      inr (subst (λ w. Says contents output output' (refused w) status) memory says)
+      inr (subst (λ w. Says contents output output' (refused m w) status) memory says)
   whole (Err Unread) (Ok status) First Short read stops says = absurd says
 
   -- the texts after it were read to their ends, if the command did what it was asked to do
   whole_if_done : (given : Result Answer Unanswered) (result : Result Status ConsoleError) (Whole : Type 0)
-      → IfOk given (λ answer. Whole) → IfOk result (SaysGiven contents output output' given)
+      → IfOk given (λ answer. Whole) → IfOk result (SaysGiven m contents output output' given)
       → IfOk result (λ status. status ≡ Done → Whole)
   whole_if_done given (Err e) Whole read says = tt
   whole_if_done (Ok answer) (Ok status) Whole read says = λ is. read
@@ -146,28 +148,28 @@ module _ {W : Type 0} (contents : W → Option (List ℕ)) (output output' : Out
 
 -- a command ended that gave this
 pub answers : {R W : Type 0} {remaining : R → Option (List ℕ)} {contents : W → Option (List ℕ)} {limit : ℕ}
-    {command : Command} {deck deck' : Device R} {others others' : List (Device R)} {output output' : Output W}
+    {m : Manner} {command : Command} {deck deck' : Device R} {others others' : List (Device R)} {output output' : Output W}
     {result : Result Status ConsoleError} (given : Result Answer Unanswered)
-    → OfText remaining deck (λ bytes. Tells given
-    (λ shown. OfTexts remaining others (λ texts. IsMeant command bytes texts shown)))
+    → OfText remaining deck (λ bytes. Tells m given
+    (λ shown. OfTexts remaining others (λ texts. IsMeant m command bytes texts shown)))
     → IfOk given (λ answer. IsWhole deck') → IfOk given (λ answer. All IsWhole others')
     → IsReadWithin limit deck deck' → AreReadWithin limit others others'
     → IfErr given (StopsFor (IsWhole deck') (StopsAt remaining limit command deck deck' others others'))
-    → IfOk result (SaysGiven contents output output' given) → IsUnreadFor output output' result (given ≡ Err Unread)
+    → IfOk result (SaysGiven m contents output output' given) → IsUnreadFor output output' result (given ≡ Err Unread)
     → Ends output' result
-    → Answers remaining contents limit command deck deck' others others' output output' result
-answers {remaining = remaining} {contents = contents} {limit = limit} {command = command} {deck = deck} {deck' = deck'}
+    → Answers remaining contents limit m command deck deck' others others' output output' result
+answers {remaining = remaining} {contents = contents} {limit = limit} {m = m} {command = command} {deck = deck} {deck' = deck'}
     {others = others} {others' = others'} {output = output} {output' = output'} {result = result}
     given text read read_others reads reads_others stops says unread ends =
     let Short = StopsAt remaining limit command deck deck' others others' in record {
       text = (
         text.0,
         text.1,
-        says_one contents output output' given result
-            (λ shown. OfTexts remaining others (λ texts. IsMeant command text.0 texts shown)) text.2 says,
+        says_one m contents output output' given result
+            (λ shown. OfTexts remaining others (λ texts. IsMeant m command text.0 texts shown)) text.2 says,
       );
-      whole = whole contents output output' given result (IsWhole deck') Short read stops says;
-      whole_others = whole_if_done contents output output' given result (All IsWhole others') read_others says;
+      whole = whole m contents output output' given result (IsWhole deck') Short read stops says;
+      whole_others = whole_if_done m contents output output' given result (All IsWhole others') read_others says;
       reads = reads;
       reads_others = reads_others;
       unreadable = λ is. let none = unread is in

@@ -7,8 +7,10 @@ use Rattle.iocm_command.specs.declared.table.Breaches.TheVariants.{First, All}
 use Rattle.iocm_command.specs.declared.table.Command.{Command}
 use Rattle.iocm_command.specs.declared.table.Command.TheVariants as command
 use Rattle.iocm_console.specs.Opening.{configuration_in, opened_deck}
-use Rattle.iocm_console.specs.Shown.{Shown, shown_or_refused}
+use Rattle.iocm_console.specs.Shown.{Shown}
 use Rattle.iocm_answer.specs.Census.{census_of}
+use Rattle.iocm_answer.specs.declared.manner.Manner.{Manner}
+use Rattle.iocm_answer.specs.Manner.{shown_or_refused}
 use Rattle.iocm_answer.specs.declared.answer.Answer.{Answer}
 use Rattle.iocm_answer.specs.declared.answer.Answer.TheVariants as answer
 use Rattle.iocm_answer.specs.declared.answering.Begun.{Begun}
@@ -39,20 +41,21 @@ abbrev pub later_texts : List (List ℕ) → List (List ℕ)
 later_texts [] = []
 later_texts (text ∷ texts) = texts
 
--- by a command this is printed of the bytes of a deck, and of the texts after it
-abbrev pub IsMeant : Command → List ℕ → List (List ℕ) → Shown → Type 0
-IsMeant (command.Check name breaches) deck others shown = shown ≡ checked_by breaches deck
-IsMeant (command.Show name filters) deck others shown = shown ≡ showed filters deck
-IsMeant (command.List listed name filters) deck others shown =
-    shown ≡ shown_or_refused (listed_of listed filters) (opened_deck deck)
-IsMeant (command.Write name) deck others shown = shown ≡ written deck
-IsMeant (command.Diff old new before) deck others shown = shown ≡ differed before deck (first_text others)
-IsMeant (command.Vary name to filters) deck others shown = shown ≡ shown_or_refused (varied_of to filters) (opened_deck deck)
-IsMeant (command.Apply name change heap report filters) deck others shown =
-    shown ≡ applied (record { report = report; wanted = filters }) deck (first_text others)
-IsMeant (command.Run name script changes heap) deck others shown =
-    IsOfTexts deck (later_texts others) (first_text others) shown
-IsMeant (command.Explain rules) deck others shown = ⊥
+-- by a command this is printed, in a manner, of the bytes of a deck and of the texts after it
+abbrev pub IsMeant : Manner → Command → List ℕ → List (List ℕ) → Shown → Type 0
+IsMeant m (command.Check name breaches) deck others shown = shown ≡ checked_by breaches m deck
+IsMeant m (command.Show name filters) deck others shown = shown ≡ showed m filters deck
+IsMeant m (command.List listed name filters) deck others shown =
+    shown ≡ shown_or_refused m (listed_of listed filters) (opened_deck deck)
+IsMeant m (command.Write name) deck others shown = shown ≡ written m deck
+IsMeant m (command.Diff old new before) deck others shown = shown ≡ differed m before deck (first_text others)
+IsMeant m (command.Vary name to filters) deck others shown =
+    shown ≡ shown_or_refused m (varied_of to filters) (opened_deck deck)
+IsMeant m (command.Apply name change heap report filters) deck others shown =
+    shown ≡ applied m (record { report = report; wanted = filters }) deck (first_text others)
+IsMeant m (command.Run name script changes heap) deck others shown =
+    IsOfTexts m deck (later_texts others) (first_text others) shown
+IsMeant m (command.Explain rules) deck others shown = ⊥
 
 -- what an answer tells beside what is printed: how much a deck has, and how many edits a difference has
 abbrev pub Counts : Command → List ℕ → List (List ℕ) → Answer → Type 0

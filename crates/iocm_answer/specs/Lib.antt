@@ -6,6 +6,7 @@ pub mod Change
 pub mod Commands
 pub mod Examples
 pub mod Making
+pub mod Manner
 pub mod Rows
 pub mod Sides
 pub mod Whole

@@ -12,11 +12,13 @@ use Rattle.iocm_console.specs.declared.status.Status.{Status}
 use Rattle.iocm_console.specs.declared.status.Status.TheVariants.{Done}
 use Rattle.iocm_console.specs.Output.{has_failed, IsHandedOn, Says}
 use Rattle.iocm_console.specs.Refusal.{is_memory, no_memory}
-use Rattle.iocm_console.specs.Shown.{Shown, refused}
+use Rattle.iocm_console.specs.Shown.{Shown}
 use Rattle.iocm_answer.specs.declared.answer.Answer.{Answer}
 use Rattle.iocm_answer.specs.declared.whole.Unanswered.{Unanswered}
 use Rattle.iocm_answer.specs.declared.whole.Unanswered.TheVariants.{Refused, Unread}
 use Rattle.iocm_command.specs.declared.table.Command.{Command}
+use Rattle.iocm_answer.specs.declared.manner.Manner.{Manner}
+use Rattle.iocm_answer.specs.Manner.{refused}
 use Rattle.iocm_answer.specs.Answer.{shown}
 use Rattle.iocm_answer.specs.Commands.{GoesOnFrom, IsMeant, OpensTo}
 use Rattle.iocm_answer.specs.declared.answering.Begun.{Begun}
@@ -81,9 +83,10 @@ abbrev pub IsUnreadFor : {W : Type 0} → Output W → Output W → Result Statu
 IsUnreadFor old new result Why = result ≡ Err Read → Why × (new ≡ old)
 
 -- something of which this holds was printed, or only that memory is missing
-abbrev pub SaysOne : {W : Type 0} → (W → Option (List ℕ)) → Output W → Output W → (Shown → Type 0) → Status → Type 0
-SaysOne contents old new Is status =
-    ((what : Shown) × Is what × Says contents old new what status) ⊎ Says contents old new (refused no_memory) status
+abbrev pub SaysOne : {W : Type 0} → Manner → (W → Option (List ℕ)) → Output W → Output W → (Shown → Type 0) → Status
+    → Type 0
+SaysOne m contents old new Is status =
+    ((what : Shown) × Is what × Says contents old new what status) ⊎ Says contents old new (refused m no_memory) status
 
 -- nothing of what was printed is kept back; or a read failed; or a write failed, which is noted
 abbrev pub Ends : {W : Type 0} → Output W → Result Status ConsoleError → Type 0
@@ -91,15 +94,15 @@ Ends output (Ok status) = (has_failed output ≡ false) × IsHandedOn output
 Ends output (Err Read) = ⊤
 Ends output (Err Write) = has_failed output ≡ true
 
--- a command on a deck and on texts after it ended: what was printed is what it means of their bytes, or that
--- memory is missing. The deck was read to its end, or only that memory is missing was printed; the texts after
+-- a command on a deck and on texts after it ended: what was printed, in a manner, is what it means of their bytes, or
+-- that memory is missing. The deck was read to its end, or only that memory is missing was printed; the texts after
 -- it were too, if the command did what it was asked to do.
 pub record Answers {R W : Type 0} (remaining : R → Option (List ℕ)) (contents : W → Option (List ℕ)) (limit : ℕ)
-    (command : Command) (deck deck' : Device R) (others others' : List (Device R)) (output output' : Output W)
+    (m : Manner) (command : Command) (deck deck' : Device R) (others others' : List (Device R)) (output output' : Output W)
     (result : Result Status ConsoleError) : Type 0 where
-  pub text : OfText remaining deck (λ bytes. IfOk result (SaysOne contents output output'
-      (λ shown. OfTexts remaining others (λ texts. IsMeant command bytes texts shown))))
-  pub whole : IfOk result (λ status. IsWhole deck' ⊎ Says contents output output' (refused no_memory) status)
+  pub text : OfText remaining deck (λ bytes. IfOk result (SaysOne m contents output output'
+      (λ shown. OfTexts remaining others (λ texts. IsMeant m command bytes texts shown))))
+  pub whole : IfOk result (λ status. IsWhole deck' ⊎ Says contents output output' (refused m no_memory) status)
   pub whole_others : IfOk result (λ status. status ≡ Done → All IsWhole others')
   pub reads : IsReadWithin limit deck deck'
   pub reads_others : AreReadWithin limit others others'
@@ -118,10 +121,10 @@ given_of (Ok answer) = Ok answer
 given_of (Err why) = Err (Refused why)
 
 -- this holds of what is to be printed, unless memory is missing or a text can't be read
-abbrev pub Tells : Result Answer Unanswered → (Shown → Type 0) → Type 0
-Tells (Ok answer) Is = Is (shown answer)
-Tells (Err (Refused why)) Is = Is (refused why) ⊎ (why ≡ no_memory)
-Tells (Err Unread) Is = ⊤
+abbrev pub Tells : Manner → Result Answer Unanswered → (Shown → Type 0) → Type 0
+Tells m (Ok answer) Is = Is (shown m answer)
+Tells m (Err (Refused why)) Is = Is (refused m why) ⊎ (why ≡ no_memory)
+Tells m (Err Unread) Is = ⊤
 
 -- there is a refusal only after this, or as memory is missing; and this is why a text can't be read
 abbrev pub StopsFor : (First Short : Type 0) → Unanswered → Type 0
@@ -129,8 +132,8 @@ StopsFor First Short (Refused why) = First ⊎ (why ≡ no_memory)
 StopsFor First Short Unread = Short
 
 -- an answer or a refusal that is given was printed
-abbrev pub SaysGiven : {W : Type 0} → (W → Option (List ℕ)) → Output W → Output W → Result Answer Unanswered
-    → Status → Type 0
-SaysGiven contents old new (Ok answer) status = Says contents old new (shown answer) status
-SaysGiven contents old new (Err (Refused why)) status = Says contents old new (refused why) status
-SaysGiven contents old new (Err Unread) status = ⊥
+abbrev pub SaysGiven : {W : Type 0} → Manner → (W → Option (List ℕ)) → Output W → Output W
+    → Result Answer Unanswered → Status → Type 0
+SaysGiven m contents old new (Ok answer) status = Says contents old new (shown m answer) status
+SaysGiven m contents old new (Err (Refused why)) status = Says contents old new (refused m why) status
+SaysGiven m contents old new (Err Unread) status = ⊥

@@ -4,6 +4,7 @@ use iocm_console::Table;
 use iocm_explain::Explained;
 use iocm_operation::Answered;
 use iocm_rules::Breach;
+use iocm_types::Fault;
 
 /// What a command gives, if it isn't refused: all that it takes to print it, so that printing needs
 /// no memory.
@@ -13,6 +14,8 @@ pub enum Answer<'f> {
     Accepted(Census),
     /// The breaches of the rules, of which there is one at least.
     Breaches(Vec<Breach>),
+    /// The faults of a deck that can't be read, of which there is one at least.
+    Faults(Vec<Fault>),
     /// A table of subchannels.
     Table(Table<'f>),
     /// A deck, or a change deck.

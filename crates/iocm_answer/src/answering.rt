@@ -1,9 +1,11 @@
 //! A command from the bytes of its texts to its answer: what its deck opens to, and what it gives of that
 //! and of the texts after it.
-ghost use Rattle.std.specs.Prelude.{◌≡◌, ◌⊎◌, ℕ, List, IfErr, IfOk, map};
+ghost use Rattle.std.specs.Prelude.{◌≡◌, ◌⊎◌, ℕ, List, Option, IfErr, IfOk, map};
 ghost use Rattle.std.specs.Option.{option_map};
 ghost use Rattle.iocm_console.specs.Refusal.{no_memory};
-ghost use Rattle.iocm_console.specs.Shown.{refused};
+ghost use Rattle.iocm_answer.specs.declared.manner.Manner as manners;
+ghost use Rattle.iocm_answer.specs.Manner.{in_form, refused};
+ghost use Rattle.iocm_lines.specs.declared.refused.Input as inputs;
 ghost use Rattle.iocm_answer.specs.Commands as meaning;
 ghost use Rattle.iocm_answer.specs.Commands.{Counts, GoesOnFrom, HasDeck, IsMeant, OpensTo};
 ghost use Rattle.iocm_answer.specs.Commands.Run.{ShowsOne};
@@ -14,6 +16,7 @@ use crate::{
 use iocm_command::{Breaches, Command};
 use iocm_config::Config;
 use iocm_console::{Refusal, open_deck};
+use iocm_lines::Form;
 use iocm_plant::Plant;
 use std::alloc::Global;
 use std::sync::Wait;
@@ -48,7 +51,8 @@ pub fn begin<'b>(alloc: Global, command: &Command<'_>, deck: &'b [u8]) -> Result
     ensures goes_on { IfOk result (λ begun. GoesOnFrom command.entry.now begun) }
     ensures opened { IfOk result (λ begun. OpensTo deck.entry.now begun) }
     ensures refusal { IfErr result (λ why. (why ≡ no_memory)
-        ⊎ ((others : List (List ℕ)) → IsMeant command.entry.now deck.entry.now others (refused why))) }
+        ⊎ ((m : manners.Manner) (others : List (List ℕ))
+        → IsMeant m command.entry.now deck.entry.now others (refused m why))) }
 {
     match command {
         Command::Check {
@@ -62,25 +66,28 @@ pub fn begin<'b>(alloc: Global, command: &Command<'_>, deck: &'b [u8]) -> Result
     }
 }
 
-/// What a command gives of what its deck opens to, and of the texts after it. M1: memory ran out.
+/// What a command gives, to be printed in a form, of what its deck opens to, and of the texts after it. M1:
+/// memory ran out.
 ///
 /// Promise: a command gives what its definition says of its deck and of the texts after it, or M1.
 pub fn finish<'f, T: Threads + Wait + Sync>(
     rt: &T,
     alloc: Global,
+    form: Form,
     command: &'f Command<'_>,
     begun: Begun<'_>,
     others: &[Vec<u8>],
 ) -> Result<Answer<'f>, Refusal>
     requires { GoesOnFrom command.now begun }
-    ensures text { (deck : List ℕ) → OpensTo deck begun.entry
-        → ShowsOne result (IsMeant command.entry.now deck (map (λ v. v.items) others.now)) }
+    ensures text { (input : Option inputs.Input) (deck : List ℕ) → OpensTo deck begun.entry
+        → ShowsOne (in_form form input) result
+        (IsMeant (in_form form input) command.entry.now deck (map (λ v. v.items) others.now)) }
     ensures counts { (deck : List ℕ) → OpensTo deck begun.entry
         → IfOk result (Counts command.entry.now deck (map (λ v. v.items) others.now)) }
 {
     match (command, begun) {
         (Command::Check { .. }, Begun::Deck(opened)) => Ok(check(&opened)),
-        (Command::Check { .. }, Begun::Text(deck)) => check_all(alloc, deck),
+        (Command::Check { .. }, Begun::Text(deck)) => check_all(alloc, form, deck),
         (Command::Show { filters, .. }, Begun::Deck(opened)) => show(alloc, opened, filters),
         (
             Command::List {
@@ -90,9 +97,9 @@ pub fn finish<'f, T: Threads + Wait + Sync>(
             },
             Begun::Deck(opened),
         ) => { list(alloc, *listed, filters, &opened) }
-        (Command::Write { .. }, Begun::Deck(opened)) => write(alloc, &opened),
+        (Command::Write { .. }, Begun::Deck(opened)) => write(alloc, form, &opened),
         (Command::Diff { before, .. }, Begun::Deck(old)) => {
-            diff(alloc, *before, &old, first_text(others))
+            diff(alloc, form, *before, &old, first_text(others))
         }
         (Command::Vary { to, filters, .. }, Begun::Deck(opened)) => {
             vary(alloc, *to, filters, &opened)
@@ -110,7 +117,7 @@ pub fn finish<'f, T: Threads + Wait + Sync>(
                 report: *report,
                 filters,
             };
-            apply(alloc, *heap, &asked, plant, first_text(others))
+            apply(alloc, form, *heap, &asked, plant, first_text(others))
         }
         (Command::Run { heap, .. }, Begun::Machine(plant)) => {
             run(

@@ -1,4 +1,4 @@
-ghost use Rattle.std.specs.Prelude.{◌≡◌, IfOk, List};
+ghost use Rattle.std.specs.Prelude.{◌≡◌, IfOk, List, Option};
 ghost use Rattle.iocm_console.specs.Refusal.{Decides};
 ghost use Rattle.iocm_filter.specs.Sieves.{IsSieveFor};
 ghost use Rattle.iocm_model.specs.Change.Edit as edit;
@@ -7,6 +7,8 @@ ghost use Rattle.iocm_model.specs.Laws.Trees.{KeepsTheRules};
 ghost use Rattle.iocm_model.specs.Operation.State.{State};
 ghost use Rattle.iocm_tree.specs.Trees.{plain_tree, tree_of};
 ghost use Rattle.iocm_answer.specs.Answer.{shown, Shows};
+ghost use Rattle.iocm_answer.specs.Manner.{in_form};
+ghost use Rattle.iocm_lines.specs.declared.refused.Input.{Input};
 ghost use Rattle.iocm_answer.specs.Commands.Apply as applying;
 ghost use Rattle.iocm_answer.specs.Making.{IsMadeBy};
 ghost use Rattle.iocm_console.specs.Shown.{done};
@@ -14,9 +16,12 @@ ghost use Rattle.iocm_console.specs.Shown.{done};
 use crate::change::read_change;
 use crate::{Altered, Answer, Asked};
 use iocm_activate::{Made, make};
+use iocm_config::Config;
 use iocm_console::{Refusal, Table, read_config};
 use iocm_filter::Sieve;
+use iocm_lines::Form;
 use iocm_plant::Plant;
+use iocm_record_lines::record_lines;
 use iocm_reports::{Report, count_altered, deck_text, way_back};
 use iocm_tree::Tree;
 use std::alloc::{AllocError, Global};
@@ -43,33 +48,36 @@ pub fn open_machine(alloc: Global, deck: &[u8]) -> Result<Plant, Refusal>
 /// Promise: `apply` prints just the report of what the change means, or one refusal.
 pub fn apply<'f>(
     alloc: Global,
+    form: Form,
     heap: Option<u32>,
     asked: &Asked<'f>,
     plant: Plant,
     change: &[u8],
 ) -> Result<Answer<'f>, Refusal>
     requires rules { KeepsTheRules plant.state }
-    ensures { Shows result (applying.tried asked.now plant.state change.now) }
+    ensures { (input : Option Input) → Shows (in_form form input) result
+        (applying.tried (in_form form input) asked.now plant.state change.now) }
 {
     let tree = read_change(alloc, heap, change)?;
-    make_change(alloc, asked, plant, &tree)
+    make_change(alloc, form, asked, plant, &tree)
 }
 
 /// What a change tree does to a machine, by the report that is asked for, or its refusal.
 fn make_change<'f>(
     alloc: Global,
+    form: Form,
     asked: &Asked<'f>,
     plant: Plant,
     tree: &Tree,
 ) -> Result<Answer<'f>, Refusal>
     requires rules { KeepsTheRules plant.state }
-    ensures { Shows result
-        (applying.made asked.now plant.state (meaning (plain_tree (tree_of tree.now)) plant.state)) }
+    ensures { (input : Option Input) → Shows (in_form form input) result (applying.made (in_form form input)
+        asked.now plant.state (meaning (plain_tree (tree_of tree.now)) plant.state)) }
 {
     let before = Sieve::new(alloc, asked.filters, plant.config())?;
     let mut plant = plant;
     let made = make(alloc, &mut plant, tree)?;
-    Ok(report(alloc, asked, &before, &made, plant)?)
+    Ok(report(alloc, form, asked, &before, &made, plant)?)
 }
 
 /// The report that is asked for, of a change that was made, with the sieve of the configuration
@@ -78,14 +86,15 @@ fn make_change<'f>(
 /// `AllocError` (M1): memory ran out.
 fn report<'f>(
     alloc: Global,
+    form: Form,
     asked: &Asked<'f>,
     before: &Sieve<'_>,
     made: &Made,
     plant: Plant,
 ) -> Result<Answer<'f>, AllocError>
-    ensures { (es : List edit.Edit) (s : State) → IsSieveFor asked.now.wanted s.config before.now
-        → IsMadeBy made.now es s → IfOk result (λ a. shown a
-        ≡ done (applying.reported asked.now.report asked.now.wanted es s plant.state)) }
+    ensures { (input : Option Input) (es : List edit.Edit) (s : State) → IsSieveFor asked.now.wanted s.config before.now
+        → IsMadeBy made.now es s → IfOk result (λ a. shown (in_form form input) a
+        ≡ done (applying.reported (in_form form input) asked.now.report asked.now.wanted es s plant.state)) }
 {
     let performed = made.performed.as_slice();
     match asked.report {
@@ -94,10 +103,22 @@ fn report<'f>(
             let table = Table::in_operation(alloc, plant, asked.filters)?;
             Ok(Answer::Changed(altered, table))
         }
-        Report::WayBack => Ok(Answer::Text(way_back(alloc, &made.inverse)?)),
+        Report::WayBack => Ok(Answer::Text(way_back(alloc, form, &made.inverse)?)),
         Report::Altered => Ok(Answer::Altered(Altered::of(alloc, before, performed, &plant)?)),
         Report::Count => Ok(Answer::Counted(Altered::of(alloc, before, performed, &plant)?)),
-        Report::Deck => Ok(Answer::Text(deck_text(alloc, plant.config())?)),
+        Report::Deck => Ok(Answer::Text(filed(alloc, form, plant.config())?)),
         Report::Test => Ok(Answer::Tried(count_altered(alloc, performed)?)),
+    }
+}
+
+/// The deck of a configuration, or a line of JSON for each of its records.
+///
+/// `AllocError` (M1): memory ran out.
+fn filed(alloc: Global, form: Form, config: &Config) -> Result<Vec<u8>, AllocError>
+    ensures { IfOk result (λ text. text.items ≡ applying.filed_in form config.now.records) }
+{
+    match form {
+        Form::Text => deck_text(alloc, config),
+        Form::Json => record_lines(alloc, config),
     }
 }

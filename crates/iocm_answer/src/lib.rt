@@ -28,10 +28,12 @@ mod differing;
 mod examples;
 mod laws;
 mod listing;
+mod manner;
 mod printing;
 mod running;
 mod showing;
 mod sifting;
+mod single;
 mod varying;
 mod whole;
 mod writing;
@@ -53,6 +55,7 @@ pub use laws::{
     what_is_written_is_read_again,
 };
 pub use listing::list;
+pub use manner::Manner;
 pub use printing::print;
 pub use running::run;
 pub use showing::show;

@@ -1,4 +1,5 @@
 ghost use Rattle.iocm_answer.specs.Answer.{Shows};
+ghost use Rattle.iocm_answer.specs.declared.manner.Manner.{Manner};
 ghost use Rattle.iocm_answer.specs.Commands.Listing.{listed_of};
 
 use crate::Answer;
@@ -19,7 +20,7 @@ pub fn list<'f>(
     filters: &Filters,
     opened: &Config,
 ) -> Result<Answer<'f>, Refusal>
-    ensures { Shows result (listed_of listed filters.now opened.now.records) }
+    ensures { (m : Manner) → Shows m result (listed_of listed filters.now opened.now.records) }
 {
     let table = match listed {
         Listed::Images => image_table(alloc, filters, opened)?,

@@ -6,6 +6,7 @@ ghost use Rattle.iocm_model.specs.Operation.State.{opening_state};
 ghost use Rattle.iocm_script.specs.Scripts.{script_in, FitsQueue};
 ghost use Rattle.iocm_tree.specs.Trees.{tree_of};
 ghost use Rattle.iocm_answer.specs.Change.{trees_in};
+ghost use Rattle.iocm_answer.specs.declared.manner.Manner.{Manner};
 ghost use Rattle.iocm_answer.specs.Commands.Run as meaning;
 ghost use Rattle.iocm_answer.specs.Commands.Run.{new_core, ShowsOne};
 
@@ -39,7 +40,7 @@ pub fn run<'f, T: Threads + Wait + Sync>(
 ) -> Result<Answer<'f>, Refusal>
     requires fresh { plant.state ≡ opening_state plant.state.config }
     requires rules { KeepsTheRules plant.state }
-    ensures { ShowsOne result (meaning.IsOfMachine plant.state.config
+    ensures { (m : Manner) → ShowsOne m result (meaning.IsOfMachine m plant.state.config
         (map (λ v. v.items) changes.now) script.now) }
 {
     let trees = read_changes(alloc, heap, changes)?;
@@ -81,8 +82,8 @@ fn play<'f, T: Threads + Wait + Sync>(
     script: &Script,
 ) -> Result<Answer<'f>, Refusal>
     requires fits { All FitsQueue script.now }
-    ensures { (config : configuration.Configuration) (room : ℕ) → core ≡ new_core config room
-        → ShowsOne result (meaning.IsRun config room (map tree_of trees.now) script.now) }
+    ensures { (m : Manner) (config : configuration.Configuration) (room : ℕ) → core ≡ new_core config room
+        → ShowsOne m result (meaning.IsRun m config room (map tree_of trees.now) script.now) }
 {
     match operate(rt, alloc, core, trees, script) {
         Ok(operated) => Ok(Answer::Ran(ran_of(alloc, operated)?)),
@@ -92,7 +93,7 @@ fn play<'f, T: Threads + Wait + Sync>(
 
 /// What came of a script, ready to be printed.
 fn ran_of<'f>(alloc: Global, operated: Operated) -> Result<Ran<'f>, AllocError>
-    ensures { IfOk result (λ ran. meaning.shown_ran ran ≡ meaning.ran operated) }
+    ensures { (m : Manner) → IfOk result (λ ran. meaning.shown_ran m ran ≡ meaning.ran m operated) }
 {
     let Operated { closed, answers } = operated;
     let Closed { plant, trace } = closed;

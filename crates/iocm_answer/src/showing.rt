@@ -1,4 +1,5 @@
 ghost use Rattle.iocm_answer.specs.Answer.{Shows};
+ghost use Rattle.iocm_answer.specs.declared.manner.Manner.{Manner};
 ghost use Rattle.iocm_answer.specs.Commands.Show.{showed_of};
 
 use crate::Answer;
@@ -12,7 +13,7 @@ use std::alloc::Global;
 ///
 /// Promise: `show` prints just the subchannels of a deck that are asked for, with their masks.
 pub fn show<'f>(alloc: Global, opened: Config, filters: &'f Filters) -> Result<Answer<'f>, Refusal>
-    ensures { Shows result (showed_of filters.entry.now opened.records) }
+    ensures { (m : Manner) → Shows m result (showed_of m filters.entry.now opened.records) }
 {
     Ok(Answer::Table(Table::at_opening(alloc, opened, filters)?))
 }

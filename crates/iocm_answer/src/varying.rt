@@ -1,9 +1,11 @@
 ghost use Rattle.std.specs.Prelude.{◌≡◌, ◌++◌, [], IfOk, OnOk, option_map};
 ghost use Rattle.std.specs.List.{flat_map, list_any};
 ghost use Rattle.iocm_model.specs.Machine.Configuration.{lookup_of};
+ghost use Rattle.iocm_list.specs.PathRows.{users_of};
 ghost use Rattle.iocm_record.specs.Meaning.{path_of};
 ghost use Rattle.iocm_difference_writer.specs.Runs.{actions_in};
 ghost use Rattle.iocm_answer.specs.Answer.{Shows};
+ghost use Rattle.iocm_answer.specs.declared.manner.Manner.{Manner};
 ghost use Rattle.iocm_answer.specs.Commands.Vary as meaning;
 
 use crate::Answer;
@@ -12,11 +14,11 @@ use iocm_config::Config;
 use iocm_console::Refusal;
 use iocm_difference_writer::difference_text;
 use iocm_filter::{Filters, ImageWord, PathWord, means_path};
+use iocm_list::users_of;
 use iocm_lookup::{RecordKind, records_of_kind};
 use iocm_record::{PathFields, Record, RecordBody};
 use iocm_tree::Edit;
 use iocm_types::{Css, Image, Key, Name};
-use iocm_values::set_of_names;
 use std::alloc::{AllocError, Global};
 
 /// What is to be done, and with which configuration.
@@ -38,7 +40,7 @@ pub fn vary<'f>(
     filters: &Filters,
     opened: &Config,
 ) -> Result<Answer<'f>, Refusal>
-    ensures { Shows result (meaning.varied_of to filters.now opened.now.records) }
+    ensures { (m : Manner) → Shows m result (meaning.varied_of to filters.now opened.now.records) }
 {
     let task = Task {
         to,
@@ -125,22 +127,13 @@ fn put_path(
 ) -> Result<(), AllocError>
     ensures { OnOk result (actions_in edits.new.items ≡ actions_in edits.old.items
         ++ flat_map (meaning.pair_actions task.now.to task.now.filters.now task.now.config.now.records
-        (path_of path.now)) (meaning.users_of (path_of path.now))) }
+        (path_of path.now)) (users_of (path_of path.now))) }
 {
     let names = users_of(alloc, path)?;
     for name in &names {
         put_pair(edits, alloc, task, path, *name)?;
     }
     Ok(())
-}
-
-/// The names of the images that may use a path, in their order.
-fn users_of(alloc: Global, path: &PathFields) -> Result<Vec<Name>, AllocError>
-    ensures { IfOk result (λ names. names.items ≡ meaning.users_of (path_of path.now)) }
-{
-    let mut names = Vec::from_slice(alloc, path.access.as_slice())?;
-    names.extend_from_slice(path.candidates.as_slice())?;
-    set_of_names(names)
 }
 
 /// Puts the edit of a path and one of its images behind others, if there is one.

@@ -15,7 +15,7 @@ ghost use Rattle.iocm_answer.specs.Whole.{Answers, AreReadWithin, AreTextsOf, En
 ghost use Rattle.iocm_answer.specs.Whole.{IsUnreadFor, OfText, OfTexts, OneStopsWithin, StopsAt, StopsFor, StopsWithin};
 ghost use Rattle.iocm_answer.specs.Whole.{Tells};
 
-use crate::{Answer, begin, finish, print};
+use crate::{Answer, Manner, begin, finish, print};
 use iocm_columns::Device;
 use iocm_command::Command;
 use iocm_console::{ConsoleError, Output, Refusal, Status};
@@ -28,6 +28,8 @@ use std::thread::Threads;
 /// A command on its deck and on the texts after it, which are read: those after the deck if the command
 /// goes on from it.
 ///
+/// All is printed in this manner.
+///
 /// L5: the deck can't be read, or the command goes on from it and one of the others can't be read. L6:
 /// a write failed. M1 is printed if memory ran out.
 ///
@@ -35,6 +37,7 @@ use std::thread::Threads;
 pub fn carry_out<R: Read, W: Write + Drop, T: Threads + Wait + Sync>(
     rt: &T,
     alloc: Global,
+    manner: Manner,
     command: &Command<'_>,
     deck: &mut Device<R>,
     others: &mut [Device<R>],
@@ -45,11 +48,11 @@ pub fn carry_out<R: Read, W: Write + Drop, T: Threads + Wait + Sync>(
     requires ready { IsReady limit deck.old }
     requires ready_others { All (λ (d : its_device.Device R). IsReady limit d) others.old }
     requires works { has_failed output.old ≡ false }
-    ensures { Answers R.remaining W.contents limit command.entry.now deck.old deck.new others.old others.new
+    ensures { Answers R.remaining W.contents limit manner command.entry.now deck.old deck.new others.old others.new
         output.old output.new result }
 {
-    let given = read_answered(rt, alloc, command, deck, others, limit);
-    say(given, output)
+    let given = read_answered(rt, alloc, manner, command, deck, others, limit);
+    say(manner, given, output)
 }
 
 /// Why the texts of a command give no answer.
@@ -89,17 +92,18 @@ impl From<Refusal> for Unanswered {
 
 /// Prints what comes of texts: an answer, or a refusal; nothing if a text can't be read.
 fn say<W: Write + Drop>(
+    manner: Manner,
     given: Result<Answer<'_>, Unanswered>,
     output: &mut Output<W>,
 ) -> Result<Status, ConsoleError>
     requires works { has_failed output.old ≡ false }
-    ensures text { IfOk result (meaning.SaysGiven W.contents output.old output.new given.entry) }
+    ensures text { IfOk result (meaning.SaysGiven manner W.contents output.old output.new given.entry) }
     ensures unread { IsUnreadFor output.old output.new result (given.entry ≡ Err Unanswered.Unread) }
     ensures ends { Ends output.new result }
 {
     match given {
-        Ok(answer) => print(&Ok(answer), output),
-        Err(Unanswered::Refused(why)) => print(&Err(why), output),
+        Ok(answer) => print(manner, &Ok(answer), output),
+        Err(Unanswered::Refused(why)) => print(manner, &Err(why), output),
         Err(Unanswered::Unread) => Err(ConsoleError::Read),
     }
 }
@@ -155,6 +159,7 @@ fn given_of<'f>(said: Result<Answer<'f>, Refusal>) -> Result<Answer<'f>, Unanswe
 fn read_answered<'f, R: Read, T: Threads + Wait + Sync>(
     rt: &T,
     alloc: Global,
+    manner: Manner,
     command: &'f Command<'_>,
     deck: &mut Device<R>,
     others: &mut [Device<R>],
@@ -163,8 +168,8 @@ fn read_answered<'f, R: Read, T: Threads + Wait + Sync>(
     requires deck { HasDeck command.now }
     requires ready { IsReady limit deck.old }
     requires ready_others { All (λ (d : its_device.Device R). IsReady limit d) others.old }
-    ensures text { OfText R.remaining deck.old (λ bytes. Tells result (λ shown.
-        OfTexts R.remaining others.old (λ texts. IsMeant command.entry.now bytes texts shown))) }
+    ensures text { OfText R.remaining deck.old (λ bytes. Tells manner result (λ shown.
+        OfTexts R.remaining others.old (λ texts. IsMeant manner command.entry.now bytes texts shown))) }
     ensures whole { IfOk result (λ answer. IsWhole deck.new) }
     ensures whole_others { IfOk result (λ answer. All IsWhole others.new) }
     ensures reads { IsReadWithin limit deck.old deck.new }
@@ -175,5 +180,5 @@ fn read_answered<'f, R: Read, T: Threads + Wait + Sync>(
     let bytes = read_text(alloc, deck, limit)?;
     let begun = begin(alloc, command, &bytes)?;
     let texts = read_texts(alloc, others, limit)?;
-    given_of(finish(rt, alloc, command, begun, &texts))
+    given_of(finish(rt, alloc, manner.form, command, begun, &texts))
 }

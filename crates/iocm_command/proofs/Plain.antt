@@ -11,6 +11,7 @@ use Rattle.clap.proofs.OnLiterals.{clap_on_literals}
 use Rattle.iocm_reports.specs.declared.report.Report.{Report}
 use Rattle.iocm_reports.specs.declared.report.Report.TheVariants.{Table, WayBack}
 use Rattle.iocm_filter.specs.Wanted.{nothing}
+use Rattle.iocm_lines.specs.declared.form.Form.TheVariants as form
 use Rattle.iocm_values.specs.Reading.{◌>>=◌, every}
 use Rattle.iocm_command.specs.CommandLine.{Stated, check, show, write, apply, IsSizeText}
 use Rattle.iocm_command.specs.Plain.{AppliesAreMeant, DecksAreMeant, IsPlainName, MeanApply, MeansApply, heap_meant}
@@ -76,7 +77,7 @@ module _ (program deck change : Text) (d : IsPlainName deck) (c : IsPlainName ch
   -- what is asked for by a size that is read
   abbrev asked : Report → Option ℕ → Option Stated
   asked report size = ((size >>= λ n. Some (Some n)) >>= λ heap. Some (apply deck change heap report nothing))
-      >>= λ command. Some (record { command = command; quiet = false })
+      >>= λ command. Some (record { command = command; form = form.Text; quiet = false })
 
   all_mean : (size : Option Text) → IfSome size IsSizeText → MeansApply program deck change size
   unfolding clap_on_literals every

@@ -10,6 +10,7 @@ use Rattle.clap.specs.Words.{Row, Text}
 use Rattle.clap.specs.declared.builder.value_parser.Reading.TheVariants.{AsWritten}
 use Rattle.clap.specs.declared.parser.matches.ValueSource.TheVariants.{CommandLine}
 use Rattle.clap.proofs.OnLiterals.{clap_on_literals}
+use Rattle.iocm_lines.specs.declared.form.Form.TheVariants as form
 use Rattle.iocm_values.specs.Reading.{◌>>=◌}
 use Rattle.iocm_command.specs.CommandLine.{Stated, run, IsSizeText}
 use Rattle.iocm_command.specs.Plain.{IsPlainName, Mean, RunsAreMeant, heap_meant, heap_words}
@@ -47,7 +48,7 @@ module _ (deck script : Text) where
 
   abbrev asked : List Text → Option ℕ → Option Stated
   asked changes size = ((size >>= λ n. Some (Some n)) >>= λ heap. Some (run deck script changes heap)) >>= λ command.
-      Some (record { command = command; quiet = false })
+      Some (record { command = command; form = form.Text; quiet = false })
 
   -- after the last one
   last_asks : (seen : List Text) (last : Text) (size : Option Text) → IfSome size IsSizeText

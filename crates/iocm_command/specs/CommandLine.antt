@@ -12,6 +12,8 @@ use Rattle.clap.specs.Words.{all_of, fault_of, first_of, found_of, rows_of, subc
 use Rattle.clap.specs.declared.error.Error.{Error}
 use Rattle.clap.specs.declared.error.kind.ErrorKind.TheVariants.{ArgumentConflict, ValueValidation}
 use Rattle.clap.specs.declared.parser.matches.ArgMatches.{ArgMatches}
+use Rattle.iocm_lines.specs.declared.form.Form.{Form}
+use Rattle.iocm_lines.specs.declared.form.Form.TheVariants as form
 use Rattle.iocm_values.specs.Reading.{◌>>=◌}
 use Rattle.iocm_filter.specs.Wanted.{Wanted}
 use Rattle.iocm_filter.specs.Misread.{misread_of}
@@ -44,9 +46,10 @@ pub data Meant : Type 0 where
   run : Text → Text → List Text → Option ℕ → Meant
   explain : List Text → Meant
 
--- with whether standard error is to be quiet
+-- with the form in which it is printed, and whether standard error is to be quiet
 pub record Stated : Type 0 where
   pub command : Meant
+  pub form : Form
   pub quiet : Bool
 
 -- the files that it has, the deck first
@@ -82,7 +85,7 @@ meant_of (Run deck script changes heap) = run deck.now script.now (texts changes
 meant_of (Explain rules) = explain (texts rules.items)
 
 abbrev pub understood_of : Understood → Stated
-understood_of u = record { command = meant_of u.command; quiet = u.quiet }
+understood_of u = record { command = meant_of u.command; form = u.form; quiet = u.quiet }
 
 -- ---- what is found under the arguments of a command
 
@@ -96,6 +99,10 @@ values_under id rows = unwrap_or (all_of id rows) []
 -- a flag is given: clap makes "true" of it
 abbrev pub is_given : Text → List Row → Bool
 is_given flag rows = option_map_or (λ value. bytes_eq value (codes "true")) (first_of flag rows) false
+
+-- the form in which is printed: lines of JSON by `--json`
+abbrev pub form_in : List Row → Form
+form_in rows = if is_given (codes "json") rows then form.Json else form.Text
 
 -- a text that gives the size of a heap: a decimal number of 16 to 16777216
 abbrev pub IsSizeText : Text → Type 0
@@ -231,7 +238,7 @@ command_in name rows =
 abbrev pub understood_in : Option (Text × List Row) → Option Stated
 understood_in None = None
 understood_in (Some named) = command_in named.0 named.1 >>= λ command.
-    Some (record { command = command; quiet = is_given (codes "quiet") named.1 })
+    Some (record { command = command; form = form_in named.1; quiet = is_given (codes "quiet") named.1 })
 
 -- a value has another form: the state of paths, what is listed, or that of a filter
 abbrev pub is_misread_state : List Row → Bool

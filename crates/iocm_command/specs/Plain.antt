@@ -4,6 +4,7 @@ use Rattle.std.specs.Prelude.{option_map}
 use Rattle.std.specs.List.{All}
 use Rattle.clap.specs.Words.{Text}
 use Rattle.iocm_filter.specs.Wanted.{nothing}
+use Rattle.iocm_lines.specs.declared.form.Form.TheVariants as form
 use Rattle.iocm_reports.specs.declared.report.Report.{Report}
 use Rattle.iocm_reports.specs.declared.report.Report.TheVariants.{Table, WayBack}
 use Rattle.iocm_command.specs.CommandLine.{Meant, apply, check, commanded, number_of, run, show, write, IsSizeText}
@@ -13,9 +14,9 @@ use Rattle.iocm_command.specs.declared.table.Breaches.TheVariants.{First}
 abbrev pub IsPlainName : Text → Type 0
 IsPlainName name = (first : ℕ) × (rest : List ℕ) × (name ≡ first ∷ rest) × ((first == 45) ≡ false)
 
--- the words mean this command, and standard error isn't quiet
+-- the words mean this command, printed as text, and standard error isn't quiet
 abbrev pub Mean : List Text → Meant → Type 0
-Mean words command = commanded words ≡ Ok (record { command = command; quiet = false })
+Mean words command = commanded words ≡ Ok (record { command = command; form = form.Text; quiet = false })
 
 -- `check`, `show` and `write` with the name of a deck
 abbrev pub DecksAreMeant : Type 0

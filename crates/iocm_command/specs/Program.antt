@@ -42,6 +42,9 @@ seen_row row = (row.name.now, map seen_argument row.arguments.now)
 abbrev pub quiet : Text × Form
 quiet = (codes "quiet", Letter 113)
 
+abbrev pub json : Text × Form
+json = (codes "json", Flag)
+
 abbrev pub deck : Text × Form
 deck = (codes "DECK", File)
 
@@ -54,19 +57,22 @@ filters = (codes "image", Filter) ∷ (codes "device", Filter) ∷ (codes "unit"
 
 -- each command, with its arguments
 abbrev pub check_row : Text × List (Text × Form)
-check_row = (codes "check", quiet ∷ deck ∷ (codes "all", Flag) ∷ [])
+check_row = (codes "check", quiet ∷ json ∷ deck ∷ (codes "all", Flag) ∷ [])
 
 abbrev pub show_row : Text × List (Text × Form)
-show_row = (codes "show", quiet ∷ deck ∷ filters)
+show_row = (codes "show", quiet ∷ json ∷ deck ∷ filters)
 
 abbrev pub list_row : Text × List (Text × Form)
 list_row = (codes "list", quiet ∷ (codes "KIND", Word) ∷ deck ∷ filters)
 
 abbrev pub write_row : Text × List (Text × Form)
-write_row = (codes "write", quiet ∷ deck ∷ [])
+write_row = (codes "write", quiet ∷ json ∷ deck ∷ [])
 
 abbrev pub diff_row : Text × List (Text × Form)
-diff_row = (codes "diff", quiet ∷ (codes "OLD", File) ∷ (codes "NEW", File) ∷ (codes "old", Flag) ∷ [])
+diff_row = (
+  codes "diff",
+  quiet ∷ json ∷ (codes "OLD", File) ∷ (codes "NEW", File) ∷ (codes "old", Flag) ∷ [],
+)
 
 abbrev pub vary_row : Text × List (Text × Form)
 vary_row = (
@@ -77,12 +83,12 @@ vary_row = (
 abbrev pub apply_row : Text × List (Text × Form)
 apply_row = (
   codes "apply",
-  quiet ∷ deck ∷ (codes "CHANGE", File) ∷ heap ∷ (codes "undo", Flag) ∷ (codes "altered", Flag) ∷ (codes "count", Flag)
-      ∷ (codes "deck", Flag) ∷ (codes "test", Flag) ∷ filters,
+  quiet ∷ json ∷ deck ∷ (codes "CHANGE", File) ∷ heap ∷ (codes "undo", Flag) ∷ (codes "altered", Flag)
+      ∷ (codes "count", Flag) ∷ (codes "deck", Flag) ∷ (codes "test", Flag) ∷ filters,
 )
 
 abbrev pub run_row : Text × List (Text × Form)
-run_row = (codes "run", quiet ∷ deck ∷ (codes "SCRIPT", File) ∷ (codes "CHANGE", Words) ∷ heap ∷ [])
+run_row = (codes "run", quiet ∷ json ∷ deck ∷ (codes "SCRIPT", File) ∷ (codes "CHANGE", Words) ∷ heap ∷ [])
 
 abbrev pub explain_row : Text × List (Text × Form)
 explain_row = (codes "explain", (codes "RULE", Words) ∷ [])

@@ -7,6 +7,7 @@ use crate::matches::{MisreadWord, misread_in, understood_in};
 use crate::program::iocm;
 use clap::Error;
 use clap::error::ErrorKind;
+use iocm_lines::Form;
 use iocm_statements::Unread;
 use std::alloc::{AllocError, Global};
 use std::convert::AsStr;
@@ -16,6 +17,8 @@ use std::convert::AsStr;
 pub struct Understood<'a> {
     /// What it asks for.
     pub command: Command<'a>,
+    /// The form in which it is printed.
+    pub form: Form,
     /// Whether standard error isn't to say from where a refusal comes.
     pub quiet: bool,
 }

@@ -1,7 +1,7 @@
 //! The command line of `iocm`: what its words ask for.
 //!
-//! `command_of` reads the words by `clap`. It gives the `Command` that they state, and whether
-//! standard error is to be quiet. Help, the version and every mistake in the words are errors of
+//! `command_of` reads the words by `clap`. It gives the `Command` that they state, the form in which it
+//! is printed, and whether standard error is to be quiet. Help, the version and every mistake in the words are errors of
 //! `clap`.
 //!
 //! `table.rt` has the table of the commands: what each takes, and what it asks for. `program.rt` tells

@@ -11,6 +11,7 @@ use crate::argument::{LARGEST_HEAP, LEAST_HEAP};
 use crate::{Before, Breaches, Command, Listed, Understood, Varied};
 use clap::ArgMatches;
 use iocm_filter::{FilterWords, Filters, Misread};
+use iocm_lines::Form;
 use iocm_reports::Report;
 use iocm_statements::Unread;
 use std::alloc::{AllocError, Global};
@@ -107,6 +108,17 @@ fn before_in(found: &ArgMatches<'_>) -> Before
         Before::Shown
     } else {
         Before::LeftOut
+    }
+}
+
+/// The form in which is printed.
+fn form_in(found: &ArgMatches<'_>) -> Form
+    ensures { result ≡ meaning.form_in (rows_in found.now) }
+{
+    if is_given(found, "json") {
+        Form::Json
+    } else {
+        Form::Text
     }
 }
 
@@ -406,9 +418,14 @@ pub(crate) fn understood_in<'a>(
 {
     match matches.subcommand() {
         Some((name, found)) => {
+            let form = form_in(found);
             let quiet = is_given(found, "quiet");
             match command_in(alloc, name, found) {
-                Ok(command) => Ok(Understood { command, quiet }),
+                Ok(command) => Ok(Understood {
+                    command,
+                    form,
+                    quiet,
+                }),
                 Err(why) => Err(why),
             }
         }

@@ -172,14 +172,14 @@ pub(crate) const COMMANDS: [Row<'static>; 9] = [
 const CHECK: Row<'static> = Row {
     name: "check",
     about: "Reads a configuration deck, checks its rules and says how many records it has",
-    arguments: &[QUIET, DECK, ALL],
+    arguments: &[QUIET, JSON, DECK, ALL],
     examples: "Examples:\n  iocm check my.deck\n  iocm check my.deck --all\n\nMore: docs/MESSAGES.md",
 };
 
 const SHOW: Row<'static> = Row {
     name: "show",
     about: "Reads a configuration deck and prints the table of its subchannels",
-    arguments: &[QUIET, DECK, IMAGE, DEVICE, UNIT, PATH, ONLINE],
+    arguments: &[QUIET, JSON, DECK, IMAGE, DEVICE, UNIT, PATH, ONLINE],
     examples: "Examples:\n  iocm show my.deck\n  iocm show my.deck --image LPB --paths-online 1\n\n\
                More: docs/DEFINITIONS.md",
 };
@@ -204,14 +204,14 @@ const LIST: Row<'static> = Row {
 const WRITE: Row<'static> = Row {
     name: "write",
     about: "Reads a configuration deck and prints it again in canonical order and forms",
-    arguments: &[QUIET, DECK],
+    arguments: &[QUIET, JSON, DECK],
     examples: "Examples:\n  iocm write my.deck\n  iocm write my.deck > canonical.deck\n\nMore: docs/CHANGES.md",
 };
 
 const DIFF: Row<'static> = Row {
     name: "diff",
     about: "Reads two configuration decks and prints the change deck that leads from one to the other",
-    arguments: &[QUIET, OLD, NEW, BEFORE],
+    arguments: &[QUIET, JSON, OLD, NEW, BEFORE],
     examples: "Examples:\n  iocm diff old.deck new.deck > my.change\n  iocm diff old.deck new.deck --old\n\n\
                More: docs/CHANGES.md",
 };
@@ -229,8 +229,8 @@ const APPLY: Row<'static> = Row {
     about: "Activates a change deck on the machine of a configuration deck and prints the table afterwards, \
             what was altered, or how to take it back",
     arguments: &[
-        QUIET, DECK, CHANGE, HEAP, UNDO, ALTERED, COUNT, AFTERWARDS, TEST, IMAGE, DEVICE, UNIT,
-        PATH, ONLINE,
+        QUIET, JSON, DECK, CHANGE, HEAP, UNDO, ALTERED, COUNT, AFTERWARDS, TEST, IMAGE, DEVICE,
+        UNIT, PATH, ONLINE,
     ],
     examples: "Examples:\n  iocm apply my.deck my.change --count\n  iocm apply my.deck my.change --undo > back.change\n\n\
                More: docs/CHANGES.md",
@@ -240,7 +240,7 @@ const RUN: Row<'static> = Row {
     name: "run",
     about: "Runs a script of images and operators on the machine of a configuration deck, and prints the answers \
             and the table afterwards",
-    arguments: &[QUIET, DECK, SCRIPT, CHANGES, HEAP],
+    arguments: &[QUIET, JSON, DECK, SCRIPT, CHANGES, HEAP],
     examples: "Examples:\n  iocm run my.deck my.script\n  iocm run my.deck my.script first.change second.change\n\n\
                More: docs/SCRIPTS.md",
 };
@@ -257,6 +257,13 @@ const QUIET: Argument<'static> = Argument {
     form: Form::Letter('q'),
     value: "",
     help: "Prints nothing on standard error beside a refusal",
+};
+
+const JSON: Argument<'static> = Argument {
+    name: "json",
+    form: Form::Flag,
+    value: "",
+    help: "Prints lines of JSON, for programs",
 };
 
 const DECK: Argument<'static> = Argument {

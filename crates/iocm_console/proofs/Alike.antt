@@ -16,7 +16,8 @@ use Rattle.iocm_model.specs.Machine.Mask.{installed, available}
 use Rattle.iocm_model.specs.Machine.View.{device_record, image_view, view_if_seen}
 use Rattle.iocm_model.proofs.Machine.OwnKeys.{keyed_own}
 use Rattle.iocm_console.specs.Alike.{AreAlike, seen_by, IsAlike, are_like}
-use Rattle.iocm_console.specs.Alike.{view_of, with_device, with_numbers, HaveDigits, IsSeen, IsSeenAt}
+use Rattle.iocm_lines.specs.Told.{with_device}
+use Rattle.iocm_console.specs.Alike.{view_of, with_numbers, HaveDigits, IsSeen, IsSeenAt}
 use Rattle.std.proofs.lemmas.Bool.{eqb-true, and_parts}
 use Rattle.std.specs.Prelude.{IfSome}
 use Rattle.iocm_types.specs.declared.sub_id.SubId.{SubId}

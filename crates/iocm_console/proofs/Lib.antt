@@ -1,4 +1,6 @@
 pub mod Alike
 pub mod Line
+pub mod Names
 pub mod Printing
 pub mod Rows
+mod Worked

@@ -1,16 +1,17 @@
--- The digits of all bytes in a table, and a line of the table, byte by byte.
-use Rattle.iocm_values.proofs.Numerals.{glyph, hex2_text, hex4_text}
-use Rattle.std.proofs.Common.{◌≡◌, ℕ, suc, ◌/◌, ◌%◌, ◌<◌, ◌≤◌, List, [], ◌∷◌, true, refl, ap, ◌∙◌}
-use Rattle.std.proofs.Common.{arith, zero, ◌+◌, ◌*◌, get_or, ◌++◌, length, codes}
+-- A line of the table, byte by byte.
+use Rattle.iocm_values.proofs.Numerals.{glyph, hex2_text}
+use Rattle.iocm_lines.proofs.Hex.{hex4_pairs}
+use Rattle.std.proofs.Common.{◌≡◌, ℕ, ◌/◌, ◌%◌, ◌<◌, ◌≤◌, List, [], ◌∷◌, true, refl, ◌∙◌}
+use Rattle.std.proofs.Common.{arith, ◌++◌, length, codes}
 use Rattle.std.proofs.lemmas.Fmt.{hex_one_digit}
 use Rattle.std.specs.Fmt.{padded_integral, char_count}
 use Rattle.iocm_types.specs.Print.{hex4}
 use Rattle.iocm_model.specs.Machine.Table.{left2, left3, line_of, chpids}
-use Rattle.iocm_console.specs.declared.digits.TheConstants.{PAIRS}
 use Rattle.std.proofs.lemmas.List.{append_assoc}
 use Rattle.iocm_types.specs.declared.sub_id.SubId.{SubId}
 use Rattle.iocm_types.specs.declared.view.View.{View}
-use Rattle.iocm_console.specs.Alike.{with_device, with_numbers, HaveDigits}
+use Rattle.iocm_lines.specs.Told.{with_device}
+use Rattle.iocm_console.specs.Alike.{with_numbers, HaveDigits}
 
 -- a digit, left aligned in three places and in two
 pub left3_digits : (n : ℕ) → n < 16 → left3 n ≡ glyph n ∷ 32 ∷ 32 ∷ []
@@ -20,41 +21,6 @@ left3_digits n small = rw (hex_one_digit true n small) refl
 pub left2_digits : (n : ℕ) → n < 16 → left2 n ≡ glyph n ∷ 32 ∷ []
 unfolding padded_integral char_count lib.Utf8.encode
 left2_digits n small = rw (hex_one_digit true n small) refl
-
--- the two digits of each of so many numbers, from one on
-abbrev pairs_from : ℕ → ℕ → List ℕ
-pairs_from zero n = []
-pairs_from (suc k) n = glyph (n / 16) ∷ glyph (n % 16) ∷ pairs_from k (n + 1)
-
-pair_at : (k n i : ℕ) → i < k → (get_or (pairs_from k n) (2 * i) 0 ≡ glyph ((n + i) / 16))
-    × (get_or (pairs_from k n) (2 * i + 1) 0 ≡ glyph ((n + i) % 16))
-pair_at zero n i within = absurd (omega arith)
-pair_at (suc k) n zero within = (ap (λ m. glyph (m / 16)) (omega arith), ap (λ m. glyph (m % 16)) (omega arith))
-pair_at (suc k) n (suc i) within =
-    let first : 2 * suc i ≡ suc (suc (2 * i)) = omega arith in
-    let second : 2 * suc i + 1 ≡ suc (suc (2 * i + 1)) = omega arith in
-    let number : n + 1 + i ≡ n + suc i = omega arith in
-    let more = pair_at k (n + 1) i (omega arith) in (
-      ap (λ j. get_or (pairs_from (suc k) n) j 0) first ∙ more.0 ∙ ap (λ m. glyph (m / 16)) number,
-      ap (λ j. get_or (pairs_from (suc k) n) j 0) second ∙ more.1 ∙ ap (λ m. glyph (m % 16)) number,
-    )
-
-pairs_are : PAIRS ≡ pairs_from 256 0
-pairs_are = refl
-
-pub digits_at : (n : ℕ) → n < 256 → (get_or PAIRS (2 * n) 0 ≡ glyph (n / 16)) × (get_or PAIRS (2 * n + 1) 0 ≡ glyph (n % 16))
-digits_at n small =
-    let at = pair_at 256 0 n small in
-    rw pairs_are (at.0 ∙ ap (λ m. glyph (m / 16)) (omega arith), at.1 ∙ ap (λ m. glyph (m % 16)) (omega arith))
-
--- the digits of a half-word, byte by byte
-hex4_pairs : (n : ℕ) → n < 65536
-    → hex4 n ≡ glyph (n / 256 / 16) ∷ glyph (n / 256 % 16) ∷ glyph (n % 256 / 16) ∷ glyph (n % 256 % 16) ∷ []
-hex4_pairs n small =
-    let first : n / 4096 ≡ n / 256 / 16 = omega arith in
-    let third : n / 16 % 16 ≡ n % 256 / 16 = omega arith in
-    let fourth : n % 16 ≡ n % 256 % 16 = omega arith in
-    hex4_text n small ∙ (λ i. glyph (first i) ∷ glyph (n / 256 % 16) ∷ glyph (third i) ∷ glyph (fourth i) ∷ [])
 
 -- the numbers of a line in their places, and then the paths
 pub line_by_places : (s : SubId) (v : View) → s.image.css < 16 → s.image.mif < 16 → s.set < 16 → s.number < 65536

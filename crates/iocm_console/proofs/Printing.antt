@@ -3,7 +3,7 @@ use Rattle.std.proofs.Common.{◌≡◌, ℕ, List, [], ◌++◌, Option, None, 
 use Rattle.std.proofs.Common.{ap, subst}
 use Rattle.std.proofs.lemmas.List.{append-nil, append_assoc}
 use Rattle.std.proofs.lemmas.Result.{on_ok_weaker}
-use Rattle.std.specs.Io.KnownBytes.{Appends, Keeps}
+use Rattle.std.specs.Io.KnownBytes.{Appends}
 use Rattle.iocm_console.specs.declared.error.ConsoleError.{ConsoleError}
 use Rattle.iocm_console.specs.declared.output.Output.{Output}
 use Rattle.iocm_console.specs.Output.{Writes, Wrote}
@@ -20,13 +20,6 @@ appends_then (Some xs) (Some ys) (Some zs) a b h k = k ∙ (ap (λ w. w ++ b) h 
 pub appends_nothing : (old : Option (List ℕ)) → Appends old old []
 appends_nothing None = tt
 appends_nothing (Some xs) = sym (append-nil xs)
-
--- a text that was written stays written
-pub appends_kept : (old mid new : Option (List ℕ)) (a : List ℕ) → Appends old mid a → Keeps mid new → Appends old new a
-appends_kept None mid new a h k = tt
-appends_kept (Some xs) None new a h k = elim h [ ]
-appends_kept (Some xs) (Some ys) None a h k = elim k [ ]
-appends_kept (Some xs) (Some ys) (Some zs) a h k = k ∙ h
 
 -- two texts, of which the second is written by a call
 pub appends_on_ok : {A E : Type 0} (old mid new : Option (List ℕ)) (a b : List ℕ) (result : Result A E)

@@ -12,6 +12,7 @@ use Rattle.iocm_console.specs.declared.like_devices.LikeDevice.{LikeDevice}
 use Rattle.iocm_types.specs.declared.sub_id.SubId.{SubId}
 use Rattle.iocm_types.specs.declared.view.View.{View}
 use Rattle.iocm_console.specs.declared.seen.Seen.{Seen}
+use Rattle.iocm_lines.specs.Told.{with_device}
 use Rattle.iocm_console.specs.Lines.{image_of, line_at, seen_at, subchannel_at}
 
 -- by what an image sees a device: its control units and its candidates
@@ -59,10 +60,6 @@ AreCompared last cells = IsThere last × All (IsAlike (lookup_of (devices_of las
 -- a line with this subchannel number and this device number in their places
 abbrev pub with_numbers : ℕ → ℕ → List ℕ → List ℕ
 with_numbers number device line = take 11 line ++ (hex4 number ++ (codes " " ++ (hex4 device ++ drop 20 line)))
-
--- a view, but of the device of this number
-abbrev pub with_device : ℕ → View → View
-with_device number v = record { device = number; paths = v.paths; pim = v.pim; pam = v.pam }
 
 -- the numbers of a subchannel and of a device have no more digits than a line has places for
 pub record HaveDigits (x : SubId) (d : ℕ) : Type 0 where

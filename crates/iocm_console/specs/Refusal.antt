@@ -8,10 +8,9 @@ use Rattle.iocm_types.specs.declared.rule.Rule.TheVariants.{M1}
 use Rattle.iocm_types.specs.declared.refused.At.{At}
 use Rattle.iocm_types.specs.declared.refused.At.TheVariants as at
 use Rattle.iocm_types.specs.declared.refused.Refused.{Refused}
-use Rattle.iocm_types.specs.declared.sub_id.SubId.{SubId}
 use Rattle.iocm_types.specs.Key.{key_text}
-use Rattle.iocm_types.specs.Print.{hex1, hex4}
 use Rattle.iocm_types.specs.Rule.{rule_text}
+use Rattle.iocm_lines.specs.Members.{subchannel_name}
 use Rattle.iocm_model.specs.Rules.FirstBreach.{Breach}
 use Rattle.iocm_console.specs.declared.refusal.About.{About}
 use Rattle.iocm_console.specs.declared.refusal.About.TheVariants.{Line, Key, Subchannel, Change, Nothing}
@@ -69,12 +68,6 @@ Decides view (Err why) due = (why ≡ no_memory) ⊎ (due ≡ Err why)
 
 -- ---- how it is printed
 
--- a subchannel by its channel subsystem, image, set and number
-abbrev pub subchannel_text : SubId → List ℕ
-subchannel_text s =
-    hex1 s.image.css
-    ++ (codes "." ++ (hex1 s.image.mif ++ (codes "." ++ (hex1 s.set ++ (codes "." ++ hex4 s.number)))))
-
 -- where in a change tree it came, in decimal
 abbrev pub node_text : Option ℕ → List ℕ
 node_text None = []
@@ -84,7 +77,7 @@ node_text (Some node) = codes " node " ++ digits 10 false node
 abbrev pub about_text : About → List ℕ
 about_text (Line line) = codes " line " ++ digits 10 false line
 about_text (Key key) = codes " " ++ key_text key
-about_text (Subchannel s) = codes " subchannel " ++ subchannel_text s
+about_text (Subchannel s) = codes " subchannel " ++ subchannel_name s
 about_text (Change number) = codes " change " ++ digits 10 false number
 about_text Nothing = []
 

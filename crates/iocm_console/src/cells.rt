@@ -1,6 +1,6 @@
 ghost use Rattle.std.specs.Prelude.{◌≡◌, ◌++◌, ◌∷◌, [], All, IfOk, OnOk};
 ghost use Rattle.std.specs.FinMap.{entries};
-ghost use Rattle.iocm_model.specs.Machine.Configuration.{lookup_of};
+ghost use Rattle.iocm_model.specs.Machine.Configuration.{IsKeyed, lookup_of};
 ghost use Rattle.iocm_model.specs.Machine.Numbering.{cells_of, opening};
 ghost use Rattle.iocm_console.specs.Lines.{celled, subchannel_at};
 ghost use Rattle.iocm_console.specs.Alike.{AreCompared, IsAlike, devices_of};
@@ -98,6 +98,14 @@ impl TableCells {
         ensures { result.now.records ≡ self.now.records }
     {
         &self.config
+    }
+
+    /// Each record of the configuration stands under its own key. It reads nothing, and is there for
+    /// callers' proofs.
+    pub(crate) fn has_own_keys(&self)
+        ensures { IsKeyed self.now.records }
+    {
+        self.config.has_own_keys();
     }
 
     /// The cells, each with a device that its own is like.

@@ -3,7 +3,7 @@
 //! `open_deck` reads the bytes of a deck and checks its rules: it gives a configuration, or a
 //! `Refusal`, the one value that says why a command gives no answer. `Table` is what it takes to
 //! print the table of a configuration's subchannels: all memory is taken when it is made, and
-//! `write_table` streams its lines. An `Output` is a writer with the program's own buffer; a write
+//! `write_table` streams its rows, as text or as lines of JSON. An `Output` is a writer with the program's own buffer; a write
 //! that failed is an error, `ConsoleError::Write`, and is noted there.
 //!
 //! The layer above may rely on this: a deck is opened exactly as `opened_deck` says, and what is
@@ -16,7 +16,6 @@
 #![tactic(auto)]
 
 mod cells;
-mod digits;
 mod error;
 mod laws;
 mod like_devices;
@@ -31,10 +30,10 @@ mod subsystem_cells;
 mod table;
 
 pub use error::{ConsoleError, Written};
-pub use laws::refusals_are_as_worked;
+pub use laws::{refusals_are_as_worked, tables_are_as_worked};
 pub use opening::{open_deck, read_config, read_statements};
 pub use output::Output;
-pub use refusal::{About, Refusal, SubchannelName};
+pub use refusal::{About, Refusal};
 pub use row::{Line, put_line, write_heading};
 pub use status::Status;
 pub use table::{Table, write_table};

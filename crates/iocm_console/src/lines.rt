@@ -2,9 +2,11 @@ ghost use Rattle.std.specs.Prelude.{◌≡◌, [], ◌∷◌, All};
 ghost use Rattle.iocm_model.specs.Machine.Configuration.{lookup_of, records_of, IsKeyed};
 ghost use Rattle.std.specs.Option.{option_map};
 ghost use Rattle.iocm_filter.specs.Sieves as sieves;
-ghost use Rattle.iocm_console.specs.Alike.{view_of, with_device, IsAlike};
+ghost use Rattle.iocm_console.specs.Alike.{view_of, IsAlike};
+ghost use Rattle.iocm_lines.specs.Told.{with_device};
 ghost use Rattle.iocm_console.specs.Lines as meaning;
-ghost use Rattle.iocm_console.specs.Lines.{celled, image_lines, kept_line, line_at, record_lines, subchannel_at};
+ghost use Rattle.iocm_console.specs.Lines.{AreLinesOf, celled, image_lines, kept_line, line_at, record_lines};
+ghost use Rattle.iocm_console.specs.Lines.{subchannel_at, text_at};
 ghost use Rattle.iocm_console.specs.Output.{Writes};
 
 use crate::cells::CellDevice;
@@ -14,34 +16,38 @@ use crate::{Output, Written};
 use iocm_config::Config;
 use iocm_derive::ImageSight;
 use iocm_filter::Sieve;
+use iocm_lines::{Form, SubchannelLines};
 use iocm_record::{Record, RecordBody};
 use iocm_types::{Css, Image, Name, View};
 use std::alloc::Allocator;
 use std::io::Write;
 
-/// Writes the lines of all images at some number cells, of the subchannels that pass. The images of
-/// a channel subsystem come one after the other, and each goes over the cells of its own alone.
+/// Writes the rows of all images at some number cells in a form, those of the subchannels that pass.
+/// The images of a channel subsystem come one after the other, and each goes over the cells of its own
+/// alone.
 pub(crate) fn write_rows<A: Allocator, W: Write + Drop>(
     output: &mut Output<W>,
+    form: Form,
     sieve: &Option<Sieve<'_>>,
     config: &Config<A>,
     cells: &[CellDevice],
 ) -> Written
     requires { All (IsAlike (lookup_of config.now.records)) cells.now }
     ensures { Writes W.contents result output.old output.new
-        (record_lines sieve.now (lookup_of config.now.records) (celled cells.now) (records_of config.now.records)) }
+        (record_lines form sieve.now (lookup_of config.now.records) (celled cells.now) (records_of config.now.records)) }
 {
     let mut near = SubsystemCells::of(cells, Css::FIRST);
     for (_, entry) in config.walk() {
         near = near.for_record(cells, entry);
-        write_record(output, sieve, config, entry, near.cells)?;
+        write_record(output, form, sieve, config, entry, near.cells)?;
     }
     Ok(())
 }
 
-/// Writes the lines of a record, if it is that of an image.
+/// Writes the rows of a record, if it is that of an image.
 fn write_record<A: Allocator, W: Write + Drop>(
     output: &mut Output<W>,
+    form: Form,
     sieve: &Option<Sieve<'_>>,
     config: &Config<A>,
     entry: &Record<A>,
@@ -49,7 +55,7 @@ fn write_record<A: Allocator, W: Write + Drop>(
 ) -> Written
     requires { All (IsAlike (lookup_of config.now.records)) cells.now }
     ensures { Writes W.contents result output.old output.new
-        (record_lines sieve.now (lookup_of config.now.records) (celled cells.now) (entry.now ∷ [])) }
+        (record_lines form sieve.now (lookup_of config.now.records) (celled cells.now) (entry.now ∷ [])) }
 {
     match entry.body() {
         RecordBody::Image(css, mif, name) => {
@@ -57,16 +63,17 @@ fn write_record<A: Allocator, W: Write + Drop>(
                 css: *css,
                 mif: *mif,
             };
-            write_image(output, sieve, config, &image, name, cells)
+            write_image(output, form, sieve, config, &image, name, cells)
         }
         _ => Ok(()),
     }
 }
 
-/// Writes the lines of an image at some number cells, if it passes. The paths that it reaches are
+/// Writes the rows of an image at some number cells, if it passes. The paths that it reaches are
 /// looked up once.
 fn write_image<A: Allocator, W: Write + Drop>(
     output: &mut Output<W>,
+    form: Form,
     sieve: &Option<Sieve<'_>>,
     config: &Config<A>,
     image: &Image,
@@ -74,7 +81,7 @@ fn write_image<A: Allocator, W: Write + Drop>(
     cells: &[CellDevice],
 ) -> Written
     requires { All (IsAlike (lookup_of config.now.records)) cells.now }
-    ensures { Writes W.contents result output.old output.new (image_lines sieve.now (lookup_of config.now.records)
+    ensures { Writes W.contents result output.old output.new (image_lines form sieve.now (lookup_of config.now.records)
         (record { css = image.now.css; mif = image.now.mif; name = name.now }) (celled cells.now)) }
 {
     if !is_image_kept(sieve, *image) {
@@ -84,20 +91,29 @@ fn write_image<A: Allocator, W: Write + Drop>(
     // was asked for.
     config.has_own_keys();
     let mut sight = ImageSight::new(config, *image, *name);
-    write_cells(output, sieve, &mut sight, cells)
+    let mut lines = SubchannelLines::new(*image, *name);
+    // The form is chosen here, so that it isn't tried for each row.
+    match form {
+        Form::Text => write_cells(output, Form::Text, sieve, &mut sight, &mut lines, cells),
+        Form::Json => write_cells(output, Form::Json, sieve, &mut sight, &mut lines, cells),
+    }
 }
 
-/// Writes the lines of an image at some number cells, each by the one before it.
+/// Writes the rows of an image at some number cells, each by the one before it.
+#[inline(always)]
 fn write_cells<A: Allocator, W: Write + Drop>(
     output: &mut Output<W>,
+    form: Form,
     sieve: &Option<Sieve<'_>>,
     sight: &mut ImageSight<'_, A>,
+    lines: &mut SubchannelLines,
     cells: &[CellDevice],
 ) -> Written
     requires keyed { IsKeyed sight.old.records }
     requires alike { All (IsAlike (lookup_of sight.old.records)) cells.now }
+    requires lines { AreLinesOf sight.old.image lines.old }
     ensures { Writes W.contents result output.old output.new
-        (image_lines sieve.now (lookup_of sight.old.records) sight.old.image (celled cells.now)) }
+        (image_lines form sieve.now (lookup_of sight.old.records) sight.old.image (celled cells.now)) }
 {
     let image = sight.image();
     let mut seen = Seen::nothing();
@@ -105,24 +121,29 @@ fn write_cells<A: Allocator, W: Write + Drop>(
     for place in cells {
         seen.go_to(sight, last, place);
         last = Some(*place);
-        write_seen(output, sieve, &image, place, &seen)?;
+        write_seen(output, form, sieve, &image, place, &seen, lines)?;
     }
     Ok(())
 }
 
-/// Writes the line of a subchannel, if something is seen there and it passes.
+/// Writes the row of a subchannel, if something is seen there and it passes.
 #[inline]
 fn write_seen<W: Write + Drop>(
     output: &mut Output<W>,
+    form: Form,
     sieve: &Option<Sieve<'_>>,
     image: &Image,
     place: &CellDevice,
     seen: &Seen,
+    lines: &mut SubchannelLines,
 ) -> Written
-    requires { seen.now.line.items
+    requires line { seen.now.line.items
         ≡ line_at (subchannel_at image.now place.now.cell) (view_of seen.now place.now.device) }
-    ensures { Writes W.contents result output.old output.new
-        (kept_line sieve.now (subchannel_at image.now place.now.cell) (view_of seen.now place.now.device)) }
+    requires image { lines.old.image ≡ image.now }
+    ensures written { Writes W.contents result output.old output.new (kept_line form sieve.now lines.old.name
+        (subchannel_at image.now place.now.cell) (view_of seen.now place.now.device)) }
+    ensures image { lines.new.image ≡ lines.old.image }
+    ensures name { lines.new.name ≡ lines.old.name }
 {
     if seen.line.is_empty() {
         return Ok(());
@@ -130,7 +151,34 @@ fn write_seen<W: Write + Drop>(
     if !is_kept(sieve, image, place, &seen.view) {
         return Ok(());
     }
-    output.bytes(seen.line.as_slice())
+    match form {
+        Form::Text => output.bytes(seen.line.as_slice()),
+        Form::Json => write_json(output, place, &seen.view, lines),
+    }
+}
+
+/// Writes the line of JSON of a subchannel, if something is seen there: this, but for the number of the
+/// device.
+fn write_json<W: Write + Drop>(
+    output: &mut Output<W>,
+    place: &CellDevice,
+    view: &Option<View>,
+    lines: &mut SubchannelLines,
+) -> Written
+    ensures written { Writes W.contents result output.old output.new (text_at Form.Json lines.old.name
+        (subchannel_at lines.old.image place.now.cell) (option_map (with_device place.now.device) view.now)) }
+    ensures image { lines.new.image ≡ lines.old.image }
+    ensures name { lines.new.name ≡ lines.old.name }
+{
+    let Some(view) = view else {
+        return Ok(());
+    };
+    let view = View {
+        device: place.device,
+        ..*view
+    };
+    lines.put(place.cell.set, place.cell.number, &view);
+    output.bytes(lines.as_slice())
 }
 
 /// Whether an image passes.

@@ -100,6 +100,7 @@ impl<W: Write + Drop> Output<W> {
     }
 
     /// Writes these bytes. Can't run out of memory.
+    #[inline(always)]
     pub fn bytes(&mut self, bytes: &[u8]) -> Written
         ensures { Writes W.contents result self.old self.new bytes.now }
     {

@@ -1,6 +1,7 @@
 ghost use Rattle.std.specs.Prelude.{◌≡◌, Some};
 ghost use Rattle.iocm_console.specs.Refusal as meaning;
 
+use iocm_lines::SubchannelName;
 use iocm_rules::Breach;
 use iocm_types::{At, Fault, Key, Refused, Rule, SubId};
 use std::alloc::{AllocError, AllocFailed};
@@ -164,21 +165,5 @@ impl fmt::Display for AboutName {
             About::Change(number) => write!(f, " change {number}"),
             About::Nothing => Ok(()),
         }
-    }
-}
-
-/// A subchannel as it is printed: channel subsystem, image, set and number with dots between.
-#[derive(Clone, Copy)]
-pub struct SubchannelName(pub SubId);
-
-impl fmt::Display for SubchannelName {
-    ghost output = { λ s. Some (meaning.subchannel_text s.0) };
-
-    fn fmt<W: fmt::Write>(&self, f: &mut fmt::Formatter<W>) -> fmt::Result {
-        let css = self.0.image.css;
-        let mif = self.0.image.mif;
-        let set = self.0.set;
-        let number = self.0.number;
-        write!(f, "{css}.{mif}.{set}.{number:04X}")
     }
 }

@@ -6,8 +6,8 @@ ghost use Rattle.iocm_model.specs.Machine.Table.{line_of, heading, chpids};
 ghost use Rattle.iocm_console.specs.Alike.{IsPrinted, with_numbers};
 
 use crate::cells::CellDevice;
-use crate::digits::{digit, digits};
 use arrayvec::ArrayVec;
+use iocm_lines::{digit, digits};
 use iocm_types::{Chpid, DevNo, SubId, View};
 use std::io;
 use std::io::Write;

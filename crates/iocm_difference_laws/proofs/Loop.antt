@@ -20,6 +20,7 @@ use Rattle.iocm_reports.specs.Deck.{deck_text}
 use Rattle.iocm_reports.specs.declared.report.Report.TheVariants.{Deck}
 use Rattle.iocm_answer.specs.Commands.Apply.{applied, made}
 use Rattle.iocm_answer.specs.Asked.{Question}
+use Rattle.iocm_answer.specs.Manner.{as_text}
 use Rattle.iocm_answer.specs.Commands.Diff.{old_if_shown, text_between}
 use Rattle.iocm_answer.specs.Commands.Write.{written_of}
 use Rattle.iocm_difference_laws.specs.Again.{IsConfigurationOfDeck}
@@ -46,20 +47,21 @@ old_of_deck before.LeftOut c is = tt
 module _ (w : Wanted) (s : State) (d : Configuration) (p : Performed)
     (same : deck_text p.state.config ≡ canonical_deck d) where
   printed_over : (o : Option Rec)
-      → made (deck_asked w) s (unless_over_limit o p) ≡ deck_or_refusal (unless_over_limit o p) (written_of d)
+      → made as_text (deck_asked w) s (unless_over_limit o p)
+      ≡ deck_or_refusal (unless_over_limit o p) (written_of as_text d)
   printed_over None = ap done same
   printed_over (Some r) = refl
 
   printed_by : (b : Bool) (o : Option Rec)
-      → made (deck_asked w) s (cond b (Err (refusal_at C2 Nothing)) (unless_over_limit o p))
-      ≡ deck_or_refusal (cond b (Err (refusal_at C2 Nothing)) (unless_over_limit o p)) (written_of d)
+      → made as_text (deck_asked w) s (cond b (Err (refusal_at C2 Nothing)) (unless_over_limit o p))
+      ≡ deck_or_refusal (cond b (Err (refusal_at C2 Nothing)) (unless_over_limit o p)) (written_of as_text d)
   printed_by true o = refl
   printed_by false o = printed_over o
 
 -- what is printed of the outcome of the difference
 printed_between : (w : Wanted) (bytes : List ℕ) (c d : Configuration) → IsAcceptedDeck bytes d
-    → made (deck_asked w) (opening_state c) (outcome_between c d)
-    ≡ deck_or_refusal (outcome_between c d) (written_of d)
+    → made as_text (deck_asked w) (opening_state c) (outcome_between c d)
+    ≡ deck_or_refusal (outcome_between c d) (written_of as_text d)
 printed_between w bytes c d is =
     let p = performed_between c d in
     printed_by w (opening_state c) d p
@@ -74,10 +76,10 @@ the_loop_closes asked w old new c d first second few =
     let was = old_if_shown asked c in
     let of = old_of_deck asked c was_deck in
     let again = difference_is_read_again_as_one was c d of was_deck after few in
-    ap (λ (shown : Shown). applied (deck_asked w) old shown.text)
+    ap (λ (shown : Shown). applied as_text (deck_asked w) old shown.text)
     (diff_prints_the_difference asked old new c d first second)
     ∙ apply_prints (deck_asked w) old (text_between asked c d) c again.tree first again.is_read
-    ∙ ap (made (deck_asked w) (opening_state c))
+    ∙ ap (made as_text (deck_asked w) (opening_state c))
     (text_means_the_difference was c d again.tree of was_deck after few again.is_read)
     ∙ printed_between w new c d second
     ∙ ap (deck_or_refusal (outcome_between c d)) (sym (write_prints new d second))

@@ -10,6 +10,7 @@ use Rattle.iocm_filter.specs.Wanted.{Wanted}
 use Rattle.iocm_difference.specs.Difference.{difference}
 use Rattle.iocm_command.specs.declared.table.Before.{Before}
 use Rattle.iocm_reports.specs.declared.report.Report.TheVariants.{Deck}
+use Rattle.iocm_answer.specs.Manner.{as_text}
 use Rattle.iocm_answer.specs.Commands.Apply.{applied}
 use Rattle.iocm_answer.specs.Commands.Diff.{count_between, differed}
 use Rattle.iocm_answer.specs.Commands.Write.{written}
@@ -35,11 +36,11 @@ outcome_of_few c d few =
 printed_of : (asked : Before) (w : Wanted) (old new : List ℕ) (c d : Configuration) (o : Option Rec)
     → IsAcceptedDeck old c → IsAcceptedDeck new d
     → count_between c d ≤ most_leaves → without_room c d ≡ o
-    → applied (record { report = Deck; wanted = w }) old (differed asked old new).text
-    ≡ deck_or_refusal (unless_over_limit o (performed_between c d)) (written new)
+    → applied as_text (record { report = Deck; wanted = w }) old (differed as_text asked old new).text
+    ≡ deck_or_refusal (unless_over_limit o (performed_between c d)) (written as_text new)
 printed_of asked w old new c d o first second few is =
     the_loop_closes asked w old new c d first second few
-    ∙ ap (λ outcome. deck_or_refusal outcome (written new))
+    ∙ ap (λ outcome. deck_or_refusal outcome (written as_text new))
     (outcome_of_few c d few ∙ ap (λ (one : Option Rec). unless_over_limit one (performed_between c d)) is)
 
 pub no_room_is_refused : NoRoomIsRefused

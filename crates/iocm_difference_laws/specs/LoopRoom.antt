@@ -10,8 +10,8 @@ use Rattle.iocm_model.specs.Change.Tree.{most_leaves}
 use Rattle.iocm_filter.specs.Wanted.{Wanted}
 use Rattle.iocm_command.specs.declared.table.Before.{Before}
 use Rattle.iocm_console.specs.Refusal.{of_change}
-use Rattle.iocm_console.specs.Shown.{refused}
 use Rattle.iocm_reports.specs.declared.report.Report.TheVariants.{Deck}
+use Rattle.iocm_answer.specs.Manner.{as_text, refused}
 use Rattle.iocm_answer.specs.Commands.Apply.{applied}
 use Rattle.iocm_answer.specs.Commands.Diff.{count_between, differed}
 use Rattle.iocm_answer.specs.Commands.Write.{written}
@@ -28,8 +28,8 @@ without_room c d = first_over_limit d (performed_between c d).state.numbers
 abbrev pub NoRoomIsRefused : Type 0
 NoRoomIsRefused = (before : Before) (w : Wanted) (old new : List ℕ) (c d : Configuration) (r : Rec)
     → IsAcceptedDeck old c → IsAcceptedDeck new d → count_between c d ≤ most_leaves → without_room c d ≡ Some r
-    → applied (record { report = Deck; wanted = w }) old (differed before old new).text
-    ≡ refused (of_change (at_node 0 (refusal_at V13 (at.Key (key_of r)))))
+    → applied as_text (record { report = Deck; wanted = w }) old (differed as_text before old new).text
+    ≡ refused as_text (of_change (at_node 0 (refusal_at V13 (at.Key (key_of r)))))
 
 -- where the limits of the new deck are enough for the devices of both decks, it prints what `write`
 -- prints of the new deck
@@ -37,4 +37,5 @@ abbrev pub RoomClosesTheLoop : Type 0
 RoomClosesTheLoop = (before : Before) (w : Wanted) (old new : List ℕ) (c d : Configuration)
     → IsAcceptedDeck old c → IsAcceptedDeck new d → count_between c d ≤ most_leaves
     → HasLimitsFor d c → HasLimitsFor d d
-    → applied (record { report = Deck; wanted = w }) old (differed before old new).text ≡ written new
+    → applied as_text (record { report = Deck; wanted = w }) old (differed as_text before old new).text
+    ≡ written as_text new

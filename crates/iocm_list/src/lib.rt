@@ -53,7 +53,7 @@ pub use laws::{
     cells_are_asked_for, nothing_asked_for_lists_all, ranges_are_the_devices,
     rows_are_listed_as_worked, tables_are_read_again,
 };
-pub use path_row::{PathRow, PathTexts, path_rows};
+pub use path_row::{PathRow, PathTexts, path_rows, users_of};
 pub use path_words::{PATH_COLUMNS, path_cells, path_table};
 pub use seen_by::SeenBy;
 pub use seen_counts::SeenCounts;

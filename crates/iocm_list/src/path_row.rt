@@ -159,8 +159,10 @@ fn path_texts(alloc: Global, carried: &[Carried]) -> Result<PathTexts, AllocErro
     })
 }
 
-/// The names of the images that may use a path, in their order.
-fn users_of(alloc: Global, path: &PathFields) -> Result<Vec<Name>, AllocError>
+/// The names of the images that may use a path, in their order, each once.
+///
+/// `AllocError` (M1): memory ran out.
+pub fn users_of(alloc: Global, path: &PathFields) -> Result<Vec<Name>, AllocError>
     ensures { IfOk result (λ names. names.items ≡ meaning.users_of (path_of path.now)) }
 {
     let mut names = Vec::from_slice(alloc, path.access.as_slice())?;

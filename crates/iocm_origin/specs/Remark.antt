@@ -3,7 +3,7 @@ use Rattle.std.specs.Prelude.{ℕ, false, List, [], ◌++◌, codes, Option, Non
 use Rattle.std.specs.Fmt.{digits}
 use Rattle.iocm_types.specs.Key.{key_text}
 use Rattle.iocm_types.specs.Rule.{rule_text}
-use Rattle.iocm_console.specs.Refusal.{subchannel_text}
+use Rattle.iocm_lines.specs.Members.{subchannel_name}
 use Rattle.iocm_console.specs.declared.refusal.About.{About}
 use Rattle.iocm_console.specs.declared.refusal.About.TheVariants as about
 use Rattle.iocm_console.specs.declared.refusal.Refusal.{Refusal}
@@ -21,7 +21,7 @@ place_text None origin = []
 -- what it is about: a record by its key, a subchannel or a change; a line is the text itself
 abbrev pub about_text : About → List ℕ
 about_text (about.Key key) = key_text key ++ codes ": "
-about_text (about.Subchannel s) = codes "subchannel " ++ (subchannel_text s ++ codes ": ")
+about_text (about.Subchannel s) = codes "subchannel " ++ (subchannel_name s ++ codes ": ")
 about_text (about.Change number) = codes "change " ++ (digits 10 false number ++ codes ": ")
 about_text (about.Line line) = []
 about_text about.Nothing = []

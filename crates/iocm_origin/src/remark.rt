@@ -1,6 +1,7 @@
 use crate::Origin;
-use iocm_console::{About, Refusal, SubchannelName};
+use iocm_console::{About, Refusal};
 use iocm_explain::title_of;
+use iocm_lines::SubchannelName;
 use std::fmt;
 
 /// What is said of a refusal beside it: from where it comes, what it is about, what is wrong, and

@@ -16,8 +16,8 @@ use Rattle.iocm_reports.specs.Lines.{lines_by, signed_line}
 use Rattle.iocm_tree.specs.Trees.{parts_of, plain_parts, plain_tree, tree_of}
 use Rattle.iocm_tree.specs.declared.tree.Tree.{Tree}
 use Rattle.iocm_tree.proofs.Trees.{rest_at, none_left}
-use Rattle.iocm_reports.specs.Remarks.{remarks_of}
-use Rattle.iocm_reports.specs.WayBack.{edits_in, edits_among, remarks_in, remarks_among}
+use Rattle.iocm_lines.specs.declared.form.Form.{Form}
+use Rattle.iocm_reports.specs.WayBack.{edits_in, edits_among, told_in, told_among, told_of}
 
 -- the texts of the items so far and that of the next, or other lists
 pub text_more : {A B : Type 0} (text : A → List B) (xs : List A) (i : ℕ) (x : A) → i < length xs → x ≡ get_or xs i x
@@ -57,21 +57,22 @@ no_remark c (key.Device set number) other = refl
 no_remark c (key.Online css number name) other = absurd (other css number name refl)
 
 -- one part more
-pub one_more_put : {A : Type 0} (shown : List (Tree A)) (i : ℕ) (x : Tree A) → i < length shown → x ≡ get_or shown i x
-    → (front more all : List ℕ) → more ≡ front ++ remarks_in (plain_tree (tree_of x))
-    → front ++ remarks_among (plain_parts (parts_of (drop i shown))) ≡ all
-    → more ++ remarks_among (plain_parts (parts_of (drop (i + 1) shown))) ≡ all
-one_more_put shown i x within is front more all put so_far =
-    let rest = remarks_among (plain_parts (parts_of (drop (i + 1) shown))) in
-    let here : remarks_among (plain_parts (parts_of (drop i shown))) ≡ remarks_in (plain_tree (tree_of x)) ++ rest =
-    ap (λ ps. remarks_among (plain_parts ps)) (rest_at shown i x within is)
-    ∙ flat_map-append remarks_of (edits_in (plain_tree (tree_of x)))
+pub one_more_put : (form : Form) {A : Type 0} (shown : List (Tree A)) (i : ℕ) (x : Tree A) → i < length shown
+    → x ≡ get_or shown i x
+    → (front more all : List ℕ) → more ≡ front ++ told_in form (plain_tree (tree_of x))
+    → front ++ told_among form (plain_parts (parts_of (drop i shown))) ≡ all
+    → more ++ told_among form (plain_parts (parts_of (drop (i + 1) shown))) ≡ all
+one_more_put form shown i x within is front more all put so_far =
+    let rest = told_among form (plain_parts (parts_of (drop (i + 1) shown))) in
+    let here : told_among form (plain_parts (parts_of (drop i shown))) ≡ told_in form (plain_tree (tree_of x)) ++ rest =
+    ap (λ ps. told_among form (plain_parts ps)) (rest_at shown i x within is)
+    ∙ flat_map-append (told_of form) (edits_in (plain_tree (tree_of x)))
     (edits_among (plain_parts (parts_of (drop (i + 1) shown)))) in
-    ap (λ ls. ls ++ rest) put ∙ append_assoc front (remarks_in (plain_tree (tree_of x))) rest
+    ap (λ ls. ls ++ rest) put ∙ append_assoc front (told_in form (plain_tree (tree_of x))) rest
     ∙ ap (λ ls. front ++ ls) (sym here) ∙ so_far
 
 -- all are put
-pub all_put : {A : Type 0} (shown : List (Tree A)) (i : ℕ) → length shown ≤ i → (front all : List ℕ)
-    → front ++ remarks_among (plain_parts (parts_of (drop i shown))) ≡ all → front ≡ all
-all_put shown i past front all so_far =
-    sym (append-nil front) ∙ ap (λ ps. front ++ remarks_among (plain_parts ps)) (sym (none_left shown i past)) ∙ so_far
+pub all_put : (form : Form) {A : Type 0} (shown : List (Tree A)) (i : ℕ) → length shown ≤ i → (front all : List ℕ)
+    → front ++ told_among form (plain_parts (parts_of (drop i shown))) ≡ all → front ≡ all
+all_put form shown i past front all so_far =
+    sym (append-nil front) ∙ ap (λ ps. front ++ told_among form (plain_parts ps)) (sym (none_left shown i past)) ∙ so_far

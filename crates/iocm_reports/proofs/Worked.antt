@@ -6,6 +6,7 @@ use Rattle.std.specs.List.Sorted.{IsStrictlySortedBy}
 use Rattle.std.specs.FinMap.{entries, keys, contains_key, same_map, contains_key-keys, get-from_entries}
 use Rattle.std.specs.FinMap.{get-from_sorted, entries-from_sorted}
 use Rattle.std.specs.FinMap.Entries.{is_sorted}
+use Rattle.json.specs.Print.{escape_byte}
 use Rattle.iocm_types.specs.declared.key.Key.{Key}
 use Rattle.iocm_types.specs.Key.{key_cmp}
 use Rattle.iocm_types.specs.KeyOrder.{keys_total, keys_exact}
@@ -14,7 +15,7 @@ use Rattle.iocm_model.specs.Machine.Configuration.{Configuration, configuration_
 use Rattle.iocm_model.specs.Machine.Record.{Rec, key_of}
 use Rattle.iocm_config.specs.OnlineLast.{is_online}
 use Rattle.iocm_reports.specs.Deck.{line_by, pairs_listed, pairs_untold, remark_line}
-use Rattle.iocm_reports.specs.Examples.{some_configuration, some_records, LinesOfRows, RemarksOnPairs}
+use Rattle.iocm_reports.specs.Examples.{some_configuration, some_records, LinesOfJson, LinesOfRows, RemarksOnPairs}
 use Rattle.iocm_reports.specs.Lines.{row_lines}
 use Rattle.iocm_reports.proofs.ListedPairs.{among, keys_of_records, offline, unlisted, untold_are}
 
@@ -68,3 +69,7 @@ remarks_on_pairs = ap (flat_map (remark_line some_configuration)) (untold_listed
 pub lines_of_rows : LinesOfRows
 unfolding char_count digits padded_integral row_lines lib.Utf8.encode
 lines_of_rows = refl
+
+pub lines_of_json : LinesOfJson
+unfolding char_count digits padded_integral escape_byte
+lines_of_json = refl

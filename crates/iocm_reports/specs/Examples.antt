@@ -1,5 +1,5 @@
 -- Lines of each form as they are stated by hand. Bytes by their codes: 10 ends a line.
-use Rattle.std.specs.Prelude.{◌≡◌, ℕ, List, [], ◌∷◌, ◌++◌, None, Some, codes, true}
+use Rattle.std.specs.Prelude.{◌≡◌, ℕ, List, [], ◌∷◌, ◌++◌, None, Some, codes, take, true}
 use Rattle.std.specs.List.{flat_map}
 use Rattle.iocm_types.specs.declared.path_kind.PathKind.TheVariants.{Shared}
 use Rattle.iocm_types.specs.declared.sub_id.SubId.{SubId}
@@ -11,9 +11,10 @@ use Rattle.iocm_types.specs.declared.live.Function.TheVariants.{Start}
 use Rattle.iocm_types.specs.declared.live.Live.{Live}
 use Rattle.iocm_types.specs.declared.live.Phase.TheVariants.{Pending}
 use Rattle.iocm_reports.specs.Remarks.{live_remark}
-use Rattle.iocm_reports.specs.Counts.{counted_text}
+use Rattle.iocm_lines.specs.declared.form.Form.TheVariants.{Json}
+use Rattle.iocm_reports.specs.Counts.{counted_in, counted_text}
 use Rattle.iocm_reports.specs.Deck.{pairs_untold, remark_line}
-use Rattle.iocm_reports.specs.Lines.{altered_text}
+use Rattle.iocm_reports.specs.Lines.{altered_in, altered_text}
 
 -- a text with the end of its line
 abbrev pub line : List ℕ → List ℕ
@@ -50,12 +51,29 @@ LinesOfRows = altered_text 7 rows_of_each_form
     ++ (line (codes "= 0   2  0   0004 1004 C0  00  50 51")
     ++ line (codes "= 0   2  0   001A")))))))
 
+-- the subchannel where another device is seen, as JSON
+abbrev pub LinesOfJson : Type 0
+LinesOfJson = altered_in Json 1 (take 1 rows_of_each_form)
+    ≡ line (codes "{\"altered\":1,\"change\":1,\"type\":\"change\"}")
+    ++ line (codes "{\"after\":{\"available\":[\"50\",\"51\"],\"device\":\"2000\",\"installed\":[\"50\",\"51\"],"
+    ++ (codes "\"pam\":\"C0\",\"paths\":[\"50\",\"51\"],\"pim\":\"C0\"},"
+    ++ (codes "\"before\":{\"available\":[\"50\",\"51\"],\"device\":\"1003\",\"installed\":[\"50\",\"51\"],"
+    ++ (codes "\"pam\":\"C0\",\"paths\":[\"50\",\"51\"],\"pim\":\"C0\"},\"css\":0,\"image\":\"0.1\","
+    ++ codes "\"number\":\"0003\",\"set\":0,\"subchannel\":\"0.1.0.0003\",\"type\":\"altered\"}"))))
+
 -- the counts of their two images
 abbrev pub CountsOfTwoImages : Type 0
 CountsOfTwoImages = counted_text 7 rows_of_each_form
     ≡ line (codes "change 1 altered 7")
     ++ (line (codes "image 0.1 gone 1 came 0 changed 1 same 0")
     ++ line (codes "image 0.2 gone 0 came 1 changed 0 same 2"))
+
+-- and as JSON
+abbrev pub CountsAsJson : Type 0
+CountsAsJson = counted_in Json 7 rows_of_each_form
+    ≡ line (codes "{\"altered\":7,\"change\":1,\"type\":\"change\"}")
+    ++ (line (codes "{\"came\":0,\"changed\":1,\"gone\":1,\"image\":\"0.1\",\"same\":0,\"type\":\"count\"}")
+    ++ line (codes "{\"came\":1,\"changed\":0,\"gone\":0,\"image\":\"0.2\",\"same\":2,\"type\":\"count\"}"))
 
 -- a path with an access list
 abbrev pub path_with : ℕ → List (List ℕ) → Rec

@@ -11,7 +11,8 @@ use Rattle.iocm_seats.specs.declared.view_change.ViewChange.{ViewChange}
 use Rattle.iocm_reports.specs.Altered.{altered_rows, AreInOrder}
 use Rattle.iocm_reports.specs.Counts.{counts_of, images_among, is_of}
 use Rattle.iocm_reports.specs.Deck.{deck_text, online_by_lists, online_in, pairs_untold}
-use Rattle.iocm_reports.specs.declared.counts.Counts.{Counts}
+use Rattle.iocm_types.specs.declared.image.Image.{Image}
+use Rattle.iocm_lines.specs.declared.change.AlteredCounts.{AlteredCounts}
 
 -- there are as many rows as subchannels that the effect has
 abbrev pub RowsAreCounted : Type 0
@@ -42,17 +43,17 @@ RowsLeadBack = (es : List Edit) (s : State)
     → without_rows (altered_rows es s (state_after_all es s)) (views_in (state_after_all es s)) ≡ views_in s
 
 -- all of these counts
-abbrev pub all_of : Counts → ℕ
+abbrev pub all_of : AlteredCounts → ℕ
 all_of n = n.gone + n.came + n.changed + n.same
 
 -- rows that are counted
 abbrev pub RowsAreOfOneKind : Type 0
-RowsAreOfOneKind = (rows : List ViewChange) → all_of (counts_of rows) ≡ length rows
+RowsAreOfOneKind = (i : Image) (rows : List ViewChange) → all_of (counts_of i rows) ≡ length rows
 
 -- the counts of all images together are those of all rows
 abbrev pub CountsSumUp : Type 0
 CountsSumUp = (rows : List ViewChange) → AreInOrder rows
-    → sum_by (λ i. all_of (counts_of (filter (is_of i) rows))) (images_among rows) ≡ length rows
+    → sum_by (λ i. all_of (counts_of i (filter (is_of i) rows))) (images_among rows) ≡ length rows
 
 -- where exactly the pairs of the access lists are online, the deck says all
 abbrev pub DeckSaysAll : Type 0

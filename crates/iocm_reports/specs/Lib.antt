@@ -1,4 +1,5 @@
 pub mod Altered
+pub mod Change
 pub mod Counts
 pub mod Deck
 pub mod Examples

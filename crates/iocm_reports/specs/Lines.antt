@@ -1,4 +1,4 @@
--- The lines of `--altered`: what was seen behind `-`, what is seen now behind `+`.
+-- What is printed for `--altered`. As text: what was seen behind `-`, what is seen now behind `+`.
 -- Bytes by their codes: 10 ends a line.
 use Rattle.std.specs.Prelude.{ℕ, List, [], ◌∷◌, ◌++◌, codes, Option, None, Some, if◌then◌else◌}
 use Rattle.std.specs.List.{flat_map}
@@ -8,7 +8,11 @@ use Rattle.iocm_types.specs.Print.{hex4}
 use Rattle.iocm_model.specs.Machine.Table.{left3, left2, line_of, heading}
 use Rattle.iocm_model.specs.Change.Edit.{same_view}
 use Rattle.iocm_seats.specs.declared.view_change.ViewChange.{ViewChange}
-use Rattle.iocm_console.specs.Counted.{changed_line}
+use Rattle.iocm_lines.specs.Altered.{altered_value}
+use Rattle.iocm_lines.specs.declared.form.Form.{Form}
+use Rattle.iocm_lines.specs.declared.form.Form.TheVariants.{Text, Json}
+use Rattle.iocm_lines.specs.Lines as json
+use Rattle.iocm_reports.specs.Change.{change_in}
 
 -- the line of a subchannel in the table, behind a sign
 abbrev pub signed_line : List ℕ → SubId → View → List ℕ
@@ -33,10 +37,20 @@ lines_by x None None = place_text x ++ 10 ∷ []
 unfoldable pub row_lines : ViewChange → List ℕ
 row_lines r = lines_by r.subchannel r.before r.after
 
--- the heading of the table, two places to the right
-abbrev pub altered_heading : List ℕ
-altered_heading = codes "  " ++ (heading ++ 10 ∷ [])
+-- the same in a form: as JSON what was seen and what is seen are in one line
+abbrev pub row_in : Form → ViewChange → List ℕ
+row_in Text r = row_lines r
+row_in Json r = json.line (altered_value r.subchannel r.before r.after)
 
--- how many subchannels a change altered, and the lines of some of them under the heading
+-- what comes before the rows: the heading of the table, two places to the right
+abbrev pub heading_in : Form → List ℕ
+heading_in Text = codes "  " ++ (heading ++ 10 ∷ [])
+heading_in Json = []
+
+-- how many subchannels a change altered, and some of them, in a form
+abbrev pub altered_in : Form → ℕ → List ViewChange → List ℕ
+altered_in form altered rows = change_in form altered ++ (heading_in form ++ flat_map (row_in form) rows)
+
+-- the same as text
 abbrev pub altered_text : ℕ → List ViewChange → List ℕ
-altered_text altered rows = changed_line altered ++ (altered_heading ++ flat_map row_lines rows)
+altered_text altered rows = altered_in Text altered rows

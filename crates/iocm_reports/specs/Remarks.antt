@@ -10,7 +10,7 @@ use Rattle.iocm_types.specs.Print.{hex1, hex2, hex4}
 use Rattle.iocm_model.specs.Change.Edit.{Edit}
 use Rattle.iocm_model.specs.Operation.Orders.{bits_of}
 use Rattle.iocm_console.specs.Digits.{enabled_text, hex8}
-use Rattle.iocm_console.specs.Refusal.{subchannel_text}
+use Rattle.iocm_lines.specs.Members.{subchannel_name}
 
 -- a device by its set and its number
 unfoldable pub device_text : Place → List ℕ
@@ -25,7 +25,7 @@ number_remark p =
 -- what a subchannel remembered, in the words of STORE's answer:
 -- * subchannel 0.1.0.0003 had lpm C0 ena 0 parm 00000000 scsw 0
 abbrev pub live_remark : SubId × Live → List ℕ
-live_remark r = codes "* subchannel " ++ (subchannel_text r.0 ++ (codes " had lpm " ++ (hex2 r.1.lpm
+live_remark r = codes "* subchannel " ++ (subchannel_name r.0 ++ (codes " had lpm " ++ (hex2 r.1.lpm
     ++ (codes " ena " ++ (enabled_text r.1.enabled
     ++ (codes " parm " ++ (hex8 r.1.parm ++ (codes " scsw " ++ hex1 (bits_of r.1.phase).0))))))))
 

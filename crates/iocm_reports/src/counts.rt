@@ -4,36 +4,24 @@ ghost use Rattle.iocm_console.specs.Output.{Writes};
 ghost use Rattle.iocm_reports.specs.Altered.{AreInOrder};
 ghost use Rattle.iocm_reports.specs.Counts as meaning;
 
+use crate::change::write_change;
 use iocm_console::{Output, Written};
+use iocm_lines::{AlteredCounts, CountLine, Form};
 use iocm_seats::ViewChange;
 use iocm_types::Image;
 use std::fmt;
 use std::io::Write;
 
-/// How many subchannels of an image a change altered, by what became of them. The words are own.
-#[derive(Clone, Copy, Debug, PartialEq, Eq)]
-pub struct Counts {
-    /// What was seen there is gone.
-    pub gone: usize,
-    /// Nothing was seen there, and now something is.
-    pub came: usize,
-    /// Something else is seen there than before.
-    pub changed: usize,
-    /// The same is seen there as before, or nothing was and is.
-    pub same: usize,
-}
-
-impl Counts {
-    /// Counts rows. The time is in proportion to their number.
-    pub fn of(rows: &[ViewChange]) -> Self
-        ensures { result ≡ meaning.counts_of rows.now }
-    {
-        Counts {
-            gone: count_gone(rows),
-            came: count_come(rows),
-            changed: count_changed(rows),
-            same: count_same(rows),
-        }
+/// Counts the rows of an image. The time is in proportion to their number.
+fn counts_of(image: Image, rows: &[ViewChange]) -> AlteredCounts
+    ensures { result ≡ meaning.counts_of image rows.now }
+{
+    AlteredCounts {
+        image,
+        gone: count_gone(rows),
+        came: count_come(rows),
+        changed: count_changed(rows),
+        same: count_same(rows),
     }
 }
 
@@ -99,21 +87,18 @@ fn is_same(row: &ViewChange) -> bool
 
 /// The counts of an image as they are printed.
 #[derive(Clone, Copy)]
-struct CountsLine {
-    image: Image,
-    counts: Counts,
-}
+struct CountsLine(AlteredCounts);
 
 impl fmt::Display for CountsLine {
-    ghost output = { λ l. Some (meaning.counts_text l.image l.counts) };
+    ghost output = { λ l. Some (meaning.counts_text l.0) };
 
     fn fmt<W: fmt::Write>(&self, f: &mut fmt::Formatter<W>) -> fmt::Result {
-        let css = self.image.css;
-        let mif = self.image.mif;
-        let gone = self.counts.gone;
-        let came = self.counts.came;
-        let changed = self.counts.changed;
-        let same = self.counts.same;
+        let css = self.0.image.css;
+        let mif = self.0.image.mif;
+        let gone = self.0.gone;
+        let came = self.0.came;
+        let changed = self.0.changed;
+        let same = self.0.same;
         write!(
             f,
             "image {css}.{mif} gone {gone} came {came} changed {changed} same {same}"
@@ -125,38 +110,47 @@ impl fmt::Display for CountsLine {
 /// that has rows, in order: how many of its subchannels are gone, came, changed, and are the same.
 /// Can't run out of memory.
 pub fn write_counted<W: Write + Drop>(
+    form: Form,
     altered: usize,
     rows: &[ViewChange],
     output: &mut Output<W>,
 ) -> Written
     requires order { AreInOrder rows.now }
-    ensures { Writes W.contents result output.old output.new (meaning.counted_text altered rows.now) }
+    ensures { Writes W.contents result output.old output.new (meaning.counted_in form altered rows.now) }
 {
-    output.changed(altered)?;
-    write_counts(rows, output)
+    write_change(form, altered, output)?;
+    write_counts(form, rows, output)
 }
 
 /// Writes a line for each image that has rows. The rows of an image stand together.
-fn write_counts<W: Write + Drop>(rows: &[ViewChange], output: &mut Output<W>) -> Written
+fn write_counts<W: Write + Drop>(form: Form, rows: &[ViewChange], output: &mut Output<W>) -> Written
     requires { AreInOrder rows.now }
-    ensures { Writes W.contents result output.old output.new (meaning.count_lines rows.now) }
+    ensures { Writes W.contents result output.old output.new (meaning.count_lines form rows.now) }
 {
     let mut left = rows;
     while let Some((row, _)) = left.split_first() {
         let (own, others) = left.split_at(rows_in_front(left, row.subchannel.image));
-        write_image(row.subchannel.image, own, output)?;
+        write_image(form, row.subchannel.image, own, output)?;
         left = others;
     }
     Ok(())
 }
 
 /// Writes the line of an image with these rows.
-fn write_image<W: Write + Drop>(image: Image, own: &[ViewChange], output: &mut Output<W>) -> Written
+fn write_image<W: Write + Drop>(
+    form: Form,
+    image: Image,
+    own: &[ViewChange],
+    output: &mut Output<W>,
+) -> Written
     ensures { Writes W.contents result output.old output.new
-        (meaning.counts_text image (meaning.counts_of own.now) ++ 10 ∷ []) }
+        (meaning.counts_line form (meaning.counts_of image own.now)) }
 {
-    let counts = Counts::of(own);
-    output.line(CountsLine { image, counts })
+    let counts = counts_of(image, own);
+    match form {
+        Form::Text => output.line(CountsLine(counts)),
+        Form::Json => output.line(CountLine(counts)),
+    }
 }
 
 /// How many rows in front are of an image.

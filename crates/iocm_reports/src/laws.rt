@@ -10,7 +10,14 @@ ghost use Rattle.iocm_reports.specs.Laws.{
   RowsLeadToTheTable,
   RowsStandInOrder,
 };
-ghost use Rattle.iocm_reports.specs.Examples.{CountsOfTwoImages, LinesOfRows, RemarkOfALive, RemarksOnPairs};
+ghost use Rattle.iocm_reports.specs.Examples.{
+  CountsAsJson,
+  CountsOfTwoImages,
+  LinesOfJson,
+  LinesOfRows,
+  RemarkOfALive,
+  RemarksOnPairs,
+};
 
 /// There is a row for each subchannel of the effect, in order. The table before, without the rows
 /// behind `-` and with those behind `+`, is the table after. The other way round it is the one
@@ -43,7 +50,9 @@ pub fn only_a_deck_says_all()
 /// Each form of a line is as it is stated by hand.
 pub fn lines_are_as_worked()
     ensures rows { LinesOfRows }
+    ensures rows_as_json { LinesOfJson }
     ensures counts { CountsOfTwoImages }
+    ensures counts_as_json { CountsAsJson }
     ensures remarks { RemarksOnPairs }
 {}
 

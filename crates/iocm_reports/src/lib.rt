@@ -16,6 +16,7 @@
 
 mod altered;
 mod back;
+mod change;
 mod counts;
 mod deck;
 mod laws;
@@ -26,7 +27,8 @@ mod report;
 
 pub use altered::{altered_rows, count_altered};
 pub use back::way_back;
-pub use counts::{Counts, write_counted};
+pub use change::write_change;
+pub use counts::write_counted;
 pub use deck::deck_text;
 pub use laws::{
     counts_sum_up, lines_are_as_worked, only_a_deck_says_all, remark_of_a_subchannel_is_as_worked,

@@ -1,43 +1,82 @@
 ghost use Rattle.std.specs.Prelude.{Some};
 ghost use Rattle.std.specs.List.{flat_map};
 ghost use Rattle.iocm_console.specs.Output.{Writes};
-ghost use Rattle.iocm_reports.specs.Lines.{altered_text, lines_by, place_text, row_lines, signed_line};
+ghost use Rattle.iocm_reports.specs.Lines.{altered_in, heading_in, lines_by, place_text, row_in, row_lines, signed_line};
 
+use crate::change::write_change;
 use iocm_console::{Line, Output, Written, put_line};
+use iocm_lines::{Form, JsonLine, put_altered};
 use iocm_seats::ViewChange;
 use iocm_types::{SubId, View};
 use std::fmt;
 use std::io::Write;
 
-/// Writes that a change was made and how many subchannels it altered, and under the heading the
-/// lines of rows: behind `-` what was seen, behind `+` what is seen now, behind `=` what is the
-/// same. Can't run out of memory.
+/// Writes that a change was made and how many subchannels it altered, and rows. As text these are
+/// lines under the heading: behind `-` what was seen, behind `+` what is seen now, behind `=` what is
+/// the same. As JSON there is a line for each. Can't run out of memory.
 pub fn write_altered<W: Write + Drop>(
+    form: Form,
     altered: usize,
     rows: &[ViewChange],
     output: &mut Output<W>,
 ) -> Written
-    ensures { Writes W.contents result output.old output.new (altered_text altered rows.now) }
+    ensures { Writes W.contents result output.old output.new (altered_in form altered rows.now) }
 {
-    output.changed(altered)?;
-    output.bytes(b"  ")?;
-    output.heading()?;
-    write_rows(rows, output)
+    write_change(form, altered, output)?;
+    write_heading(form, output)?;
+    write_rows(form, rows, output)
 }
 
-/// Writes the lines of rows.
-fn write_rows<W: Write + Drop>(rows: &[ViewChange], output: &mut Output<W>) -> Written
-    ensures { Writes W.contents result output.old output.new (flat_map row_lines rows.now) }
+/// Writes what comes before rows: the heading of a text.
+fn write_heading<W: Write + Drop>(form: Form, output: &mut Output<W>) -> Written
+    ensures { Writes W.contents result output.old output.new (heading_in form) }
+{
+    match form {
+        Form::Text => {
+            output.bytes(b"  ")?;
+            output.heading()
+        }
+        Form::Json => Ok(()),
+    }
+}
+
+/// Writes rows in a form.
+fn write_rows<W: Write + Drop>(form: Form, rows: &[ViewChange], output: &mut Output<W>) -> Written
+    ensures { Writes W.contents result output.old output.new (flat_map (row_in form) rows.now) }
 {
     for row in rows {
-        write_row(row, output)?;
+        write_row(form, row, output)?;
     }
     Ok(())
 }
 
-/// Writes the lines of a row.
+/// Writes a row in a form.
+fn write_row<W: Write + Drop>(form: Form, row: &ViewChange, output: &mut Output<W>) -> Written
+    ensures { Writes W.contents result output.old output.new (row_in form row.now) }
+{
+    match form {
+        Form::Text => write_lines(row, output),
+        Form::Json => write_json(row, output),
+    }
+}
+
+/// Writes the line of JSON of a row.
+fn write_json<W: Write + Drop>(row: &ViewChange, output: &mut Output<W>) -> Written
+    ensures { Writes W.contents result output.old output.new (row_in Form.Json row.now) }
+{
+    let mut line = JsonLine::new();
+    put_altered(
+        &mut line,
+        row.subchannel,
+        row.before.as_ref(),
+        row.after.as_ref(),
+    );
+    output.bytes(line.as_slice())
+}
+
+/// Writes the lines of text of a row.
 #[tactic(auto, unfolding(crate::specs::Lines::row_lines))]
-fn write_row<W: Write + Drop>(row: &ViewChange, output: &mut Output<W>) -> Written
+fn write_lines<W: Write + Drop>(row: &ViewChange, output: &mut Output<W>) -> Written
     ensures { Writes W.contents result output.old output.new (row_lines row.now) }
 {
     match (&row.before, &row.after) {

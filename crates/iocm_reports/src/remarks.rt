@@ -5,7 +5,7 @@ ghost use Rattle.iocm_reports.specs.Remarks as meaning;
 
 use crate::memory::Allocated;
 use bitflags::Flags;
-use iocm_console::SubchannelName;
+use iocm_lines::SubchannelName;
 use iocm_live::{Live, bits};
 use iocm_tree::Edit;
 use iocm_types::{Place, SubId};

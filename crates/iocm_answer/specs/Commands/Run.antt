@@ -4,7 +4,6 @@ use Rattle.std.specs.List.{sum_by}
 use Rattle.iocm_types.specs.declared.fault.Fault.{Fault}
 use Rattle.iocm_core.specs.Seen.{Core}
 use Rattle.iocm_model.specs.Machine.Configuration.{Configuration}
-use Rattle.iocm_model.specs.Machine.Table.{table_of}
 use Rattle.iocm_model.specs.Operation.State.{opening_state}
 use Rattle.iocm_operation.specs.declared.operated.Operated.{Operated}
 use Rattle.iocm_operation.specs.Running.{IsOperation}
@@ -13,22 +12,24 @@ use Rattle.iocm_tree.specs.Trees.{CarriedTree, plain_tree}
 use Rattle.iocm_console.specs.declared.refusal.Refusal.{Refusal}
 use Rattle.iocm_console.specs.Opening.{opened_deck}
 use Rattle.iocm_console.specs.Refusal.{no_memory, of_fault}
-use Rattle.iocm_console.specs.Shown.{Shown, done, refused}
-use Rattle.iocm_console.specs.Table.{text_of}
+use Rattle.iocm_console.specs.Shown.{Shown, done}
+use Rattle.iocm_console.specs.Table.{whole_table_in, text_in}
 use Rattle.iocm_answer.specs.declared.answer.Answer.{Answer}
 use Rattle.iocm_answer.specs.declared.answer.Ran.{Ran}
-use Rattle.iocm_answer.specs.Answer.{answer_lines, printed, trace_line}
+use Rattle.iocm_answer.specs.Answer.{answer_lines, printed}
 use Rattle.iocm_answer.specs.Change.{trees_in}
+use Rattle.iocm_answer.specs.declared.manner.Manner.{Manner}
+use Rattle.iocm_answer.specs.Manner.{refused, trace_in}
 
 -- the answers, how many calls were made, and the table of the machine that is left
-abbrev pub ran : Operated → List ℕ
-ran o = answer_lines o.answers.items
-    ++ (trace_line (length o.closed.trace.entries.items)
-    ++ table_of o.closed.plant.state.config o.closed.plant.state.numbers)
+abbrev pub ran : Manner → Operated → List ℕ
+ran m o = answer_lines m o.answers.items
+    ++ (trace_in m.form (length o.closed.trace.entries.items)
+    ++ whole_table_in m.form o.closed.plant.state.config o.closed.plant.state.numbers)
 
 -- the same, ready to be printed
-abbrev pub shown_ran : Ran → List ℕ
-shown_ran r = answer_lines r.answers.items ++ (trace_line r.calls ++ text_of r.table)
+abbrev pub shown_ran : Manner → Ran → List ℕ
+shown_ran m r = answer_lines m r.answers.items ++ (trace_in m.form r.calls ++ text_in m.form r.table)
 
 -- a core of this configuration, of which nothing was asked yet, with room for so many calls
 abbrev pub new_core : Configuration → ℕ → Core
@@ -40,31 +41,32 @@ calls_in rounds = sum_by length rounds
 
 -- a script is run on the machine of a configuration, with room for so many calls, and this is printed of
 -- it
-abbrev pub IsRun : Configuration → ℕ → List CarriedTree → Rounds → Shown → Type 0
-IsRun c room ts rounds shown =
-    (o : Operated) × IsOperation (new_core c room) (map plain_tree ts) rounds o × (shown ≡ done (ran o))
+abbrev pub IsRun : Manner → Configuration → ℕ → List CarriedTree → Rounds → Shown → Type 0
+IsRun m c room ts rounds shown =
+    (o : Operated) × IsOperation (new_core c room) (map plain_tree ts) rounds o × (shown ≡ done (ran m o))
 
 -- what comes first of: a fault of the change decks, one of the script, the run
-abbrev pub IsOfScript : Configuration → List CarriedTree → Result Rounds Fault → Shown → Type 0
-IsOfScript c ts (Ok rounds) shown = IsRun c (min (calls_in rounds) (2 ^ 64 - 1)) ts rounds shown
-IsOfScript c ts (Err fault) shown = shown ≡ refused (of_fault fault)
+abbrev pub IsOfScript : Manner → Configuration → List CarriedTree → Result Rounds Fault → Shown → Type 0
+IsOfScript m c ts (Ok rounds) shown = IsRun m c (min (calls_in rounds) (2 ^ 64 - 1)) ts rounds shown
+IsOfScript m c ts (Err fault) shown = shown ≡ refused m (of_fault fault)
 
-abbrev pub IsOfChanges : Configuration → Result (List CarriedTree) Fault → Result Rounds Fault → Shown → Type 0
-IsOfChanges c (Ok ts) script shown = IsOfScript c ts script shown
-IsOfChanges c (Err fault) script shown = shown ≡ refused (of_fault fault)
+abbrev pub IsOfChanges : Manner → Configuration → Result (List CarriedTree) Fault → Result Rounds Fault → Shown
+    → Type 0
+IsOfChanges m c (Ok ts) script shown = IsOfScript m c ts script shown
+IsOfChanges m c (Err fault) script shown = shown ≡ refused m (of_fault fault)
 
 -- of the bytes of change decks and of a script, on a machine that is opened
-abbrev pub IsOfMachine : Configuration → List (List ℕ) → List ℕ → Shown → Type 0
-IsOfMachine c changes script shown = IsOfChanges c (trees_in changes) (script_in (length changes) script) shown
+abbrev pub IsOfMachine : Manner → Configuration → List (List ℕ) → List ℕ → Shown → Type 0
+IsOfMachine m c changes script shown = IsOfChanges m c (trees_in changes) (script_in (length changes) script) shown
 
 -- of the bytes of a deck too: its refusal comes first
-abbrev pub IsOfOpened : Result Configuration Refusal → List (List ℕ) → List ℕ → Shown → Type 0
-IsOfOpened (Ok c) changes script shown = IsOfMachine c changes script shown
-IsOfOpened (Err why) changes script shown = shown ≡ refused why
+abbrev pub IsOfOpened : Manner → Result Configuration Refusal → List (List ℕ) → List ℕ → Shown → Type 0
+IsOfOpened m (Ok c) changes script shown = IsOfMachine m c changes script shown
+IsOfOpened m (Err why) changes script shown = shown ≡ refused m why
 
-abbrev pub IsOfTexts : List ℕ → List (List ℕ) → List ℕ → Shown → Type 0
-IsOfTexts deck changes script = IsOfOpened (opened_deck deck) changes script
+abbrev pub IsOfTexts : Manner → List ℕ → List (List ℕ) → List ℕ → Shown → Type 0
+IsOfTexts m deck changes script = IsOfOpened m (opened_deck deck) changes script
 
 -- something of which this holds is printed of what a command gives, or that memory is missing
-abbrev pub ShowsOne : Result Answer Refusal → (Shown → Type 0) → Type 0
-ShowsOne result Is = Is (printed result) ⊎ (result ≡ Err no_memory)
+abbrev pub ShowsOne : Manner → Result Answer Refusal → (Shown → Type 0) → Type 0
+ShowsOne m result Is = Is (printed m result) ⊎ (result ≡ Err no_memory)

@@ -7,8 +7,8 @@ use Rattle.iocm_model.specs.Change.Edit.{Action, add, delete}
 use Rattle.iocm_model.specs.Machine.Configuration.{Configuration, lookup_of, records_of}
 use Rattle.iocm_model.specs.Machine.Record.{Rec, PathRecord, image, path, online}
 use Rattle.iocm_model.specs.Rules.EachRule.{same_name}
+use Rattle.iocm_list.specs.PathRows.{users_of}
 use Rattle.iocm_lookup.specs.Kinds.{of_kind}
-use Rattle.iocm_values.specs.NameSet.{name_set}
 use Rattle.iocm_filter.specs.Wanted.{Wanted, means_path, one_if_asked}
 use Rattle.iocm_filter.specs.declared.meant.ImageWord.{ImageWord}
 use Rattle.iocm_filter.specs.declared.meant.ImageWord.TheVariants as word
@@ -33,10 +33,6 @@ is_named_by c css name (word.Place at) = at.css == css && has_own_name name (loo
 -- no image is asked for, or this one is
 abbrev pub wants_name : Wanted → Configuration → ℕ → List ℕ → Bool
 wants_name w c css name = one_if_asked (is_named_by c css name) w.images
-
--- the images that may use a path, in the order of their names
-abbrev pub users_of : PathRecord → List (List ℕ)
-users_of p = name_set (p.access ++ p.candidates)
 
 -- ---- what is done
 

@@ -6,4 +6,4 @@ use Rattle.iocm_answer.proofs.printing.write_answers.Given as goal
 
 abbrev pub invariant-loop-answered : goal.invariant-loop-answered
 invariant-loop-answered g l =
-    Wrote g.W.Write.contents l.initial.output l.output (answer_lines (take l.answered-index l.answers))
+    Wrote g.W.Write.contents l.initial.output l.output (answer_lines l.manner (take l.answered-index l.answers))

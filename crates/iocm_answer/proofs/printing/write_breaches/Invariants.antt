@@ -6,4 +6,4 @@ use Rattle.iocm_answer.proofs.printing.write_breaches.Given as goal
 
 abbrev pub invariant-loop-breach : goal.invariant-loop-breach
 invariant-loop-breach g l =
-    Wrote g.W.Write.contents l.initial.output l.output (breach_lines (take l.breach-index l.breaches))
+    Wrote g.W.Write.contents l.initial.output l.output (breach_lines l.manner (take l.breach-index l.breaches))

@@ -13,9 +13,9 @@ plain_trees [] = refl
 plain_trees (t ∷ ts) = ap (λ ps. plain_tree (tree_of t) ∷ ps) (plain_trees ts)
 
 pub returns-in_ok-ran_of-in-Ok : goal.returns-in_ok-ran_of-in-Ok
-returns-in_ok-ran_of-in-Ok g c config room same =
+returns-in_ok-ran_of-in-Ok g c m config room same =
     let ts = c.args.trees.now in
     let o = c.in-Ok.operated in
     let op = subst (λ (k : Core). IsOperation k (map plain_tree (map tree_of ts)) c.args.script.now o) same
     (subst (λ ps. IsOperation c.args.core ps c.args.script.now o) (plain_trees ts) c.in-Ok.ensures) in
-    inl (o, op, ap done c.in_ok-ran_of-in-Ok.ensures)
+    inl (o, op, ap done (c.in_ok-ran_of-in-Ok.ensures m))

@@ -10,9 +10,11 @@ use Rattle.iocm_console.proofs.lines.write_cells.Goals as goal
 
 pub loop-place-init : goal.loop-place-init
 loop-place-init g c = record {
-  wrote = writes_nothing (image_lines-nil _ _ _);
+  wrote = writes_nothing (image_lines-nil _ _ _ _);
   last = tt;
   same = refl;
+  image = c.requires.lines.image;
+  name = c.requires.lines.name;
 }
 
 pub loop-place-preserved : goal.loop-place-preserved
@@ -20,13 +22,15 @@ loop-place-preserved g c =
     let place = c.place-item.result in
     let seen = c.go_to.new.self in
     record {
-      wrote = writes_as (writes_then c.loop-place.invariant.wrote c.in_ok-write_seen.ensures)
-          (image_lines_more c.args.sieve.now c.args.sight.now c.loop-place.sight c.loop-place.invariant.same
+      wrote = writes_as (writes_then c.loop-place.invariant.wrote c.in_ok-write_seen.ensures.written)
+          (image_lines_more c.args.form c.args.sieve.now c.args.sight.now c.loop-place.sight c.loop-place.invariant.same
           c.args.cells.now c.loop-place.place-index place c.loop-place-test.true c.place-item.is
-          (subchannel_at c.image-image.result place.cell) seen
+          (subchannel_at c.image-image.result place.cell) c.loop-place.lines.name seen
           (ap (λ (i : Image). subchannel_at i place.cell) c.image-image.ensures)
-          c.go_to.ensures.seen);
+          c.loop-place.invariant.name c.go_to.ensures.seen);
       last = subst (λ (s : Sighted). IsSeenAt (lookup_of s.records) s.image seen place) c.loop-place.invariant.same
           c.go_to.ensures.seen;
       same = c.go_to.ensures.same ∙ c.loop-place.invariant.same;
+      image = c.in_ok-write_seen.ensures.image ∙ c.loop-place.invariant.image;
+      name = c.in_ok-write_seen.ensures.name ∙ c.loop-place.invariant.name;
     }

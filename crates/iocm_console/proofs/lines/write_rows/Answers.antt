@@ -11,14 +11,14 @@ use Rattle.iocm_console.proofs.Rows.{near_lines, record_lines_more, record_lines
 use Rattle.iocm_console.proofs.lines.write_rows.Goals as goal
 
 pub loop-entry-init : goal.loop-entry-init
-loop-entry-init g c = record { wrote = writes_nothing (record_lines-nil _ _ _); near = c.of-near.ensures.near }
+loop-entry-init g c = record { wrote = writes_nothing (record_lines-nil _ _ _ _); near = c.of-near.ensures.near }
 
 pub loop-entry-preserved : goal.loop-entry-preserved
 loop-entry-preserved g c = record {
   wrote = writes_as (writes_then c.loop-entry.invariant.wrote (writes_as c.in_ok-write_record.ensures
-      (near_lines c.args.sieve.now (lookup_of c.args.config.now.records) _ _ c.args.cells.now _
+      (near_lines c.args.form c.args.sieve.now (lookup_of c.args.config.now.records) _ _ c.args.cells.now _
       c.for_record-near.ensures.near c.for_record-near.ensures.css)))
-      (record_lines_more c.args.sieve.now (lookup_of c.args.config.now.records) (celled c.args.cells.now) deref_pair
+      (record_lines_more c.args.form c.args.sieve.now (lookup_of c.args.config.now.records) (celled c.args.cells.now) deref_pair
       c.loop-entry.yielded (c.in-Some.field-0-0, c.in-Some.entry));
   near = c.for_record-near.ensures.near;
 }
@@ -29,7 +29,7 @@ returns g c =
     c.into_iter-entry-iterator.result c.loop-entry.entry-iterator c.next.new.self c.next.result
     (c.into_iter-entry-iterator.ensures.into_iter_gives ∙ c.walk-entry-items.ensures.entries) c.loop-entry.yielded_by
     c.in-None.is c.next.ensures.steps in
-    writes_as c.loop-entry.invariant.wrote (ap (λ (es : List (Key × Rec)). record_lines c.args.sieve.now
+    writes_as c.loop-entry.invariant.wrote (ap (λ (es : List (Key × Rec)). record_lines c.args.form c.args.sieve.now
     (lookup_of c.args.config.now.records) (celled c.args.cells.now) (map (λ (e : Key × Rec). e.1) es)) all.0)
 
 pub write_record-requires : goal.write_record-requires

@@ -10,6 +10,6 @@ use Rattle.iocm_console.proofs.lines.write_rows.Given as goal
 abbrev pub invariant-loop-entry : goal.invariant-loop-entry
 invariant-loop-entry g l = record {
   wrote : Wrote g.W.Write.contents l.initial.output l.output
-      (record_lines l.sieve (lookup_of l.config.records) (celled l.cells) (records_in deref_pair l.yielded));
+      (record_lines l.form l.sieve (lookup_of l.config.records) (celled l.cells) (records_in deref_pair l.yielded));
   near : ServeFor l.near.css l.near.cells.now l.cells;
 }

@@ -8,7 +8,7 @@ use Rattle.iocm_reports.proofs.counts.write_counts.Given as goal
 abbrev pub invariant-loop-row : goal.invariant-loop-row
 invariant-loop-row g l = record {
   wrote : (written : List ℕ) × Wrote g.W.Write.contents l.initial.output l.output written
-      × (written ++ count_lines l.left ≡ count_lines l.initial.left);
+      × (written ++ count_lines l.form l.left ≡ count_lines l.form l.initial.left);
   order : AreInOrder l.left;
 }
 
