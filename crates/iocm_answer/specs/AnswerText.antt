@@ -10,7 +10,8 @@ use Rattle.iocm_types.specs.declared.order.Io.TheVariants as io
 use Rattle.iocm_types.specs.declared.order.Stored.{Stored}
 use Rattle.iocm_types.specs.declared.scsw.ScswBits.{ScswBits}
 use Rattle.iocm_types.specs.Print.{hex1, hex2, hex4}
-use Rattle.iocm_console.specs.Digits.{enabled_text, hex8}
+use Rattle.iocm_lines.specs.Members.{hex8}
+use Rattle.iocm_console.specs.Digits.{enabled_text}
 use Rattle.iocm_console.specs.Refusal.{of_change, refusal_text}
 
 -- the status bits, one hexadecimal digit: 1 start, 2 halt, 4 clear, and 8 more where status is

@@ -1,16 +1,7 @@
-pub mod Alike
 pub mod AskedWords
-pub mod Connecting
-pub mod Keeping
-pub mod Members
-pub mod Naming
 pub mod OneMore
-pub mod PathNumbers
 pub mod RangesOfDevices
-pub mod RunSums
-pub mod SeenViews
-pub mod SightTests
-pub mod Sights
+pub mod Rows
 pub mod WordedDevices
 pub mod WordedRows
 pub mod WorkedDevices

@@ -6,8 +6,8 @@ use Rattle.std.proofs.lemmas.List.FromFn.{map-range_with_len_more}
 use Rattle.std.specs.List.{flat_map, range_with_len}
 use Rattle.iocm_model.specs.Machine.Record.{PathRecord, UnitRecord}
 use Rattle.iocm_words.specs.declared.ranges.DeviceNumbers.{DeviceNumbers}
-use Rattle.iocm_list.specs.declared.joined.DeviceKey.{DeviceKey}
-use Rattle.iocm_list.specs.Connected.{paths_of, units_of}
+use Rattle.iocm_sight.specs.declared.devices.DeviceKey.{DeviceKey}
+use Rattle.iocm_sight.specs.Connected.{paths_of, units_of}
 use Rattle.iocm_list.specs.Joined.{alone, follows, joined_from, with_last}
 use Rattle.iocm_list.specs.Laws.{AllPathsAreListed, AllUnitsAreListed, RangesAreApart, RangesAreTheDevices}
 use Rattle.iocm_list.specs.Laws.{are_apart, are_apart_behind, device_in, devices_in, first_in}

@@ -27,9 +27,9 @@ use Rattle.iocm_list.specs.DeviceCells.{unlinked}
 use Rattle.iocm_list.specs.DeviceRows.{DeviceRow, device_row, device_rows, is_listed}
 use Rattle.iocm_list.specs.DevicesAgain.{DeviceTableIsReadAgain, HasImageNames, ImageTableIsReadAgain}
 use Rattle.iocm_list.specs.ImageRows.{ImageRow, image_row, image_rows, is_image_listed}
-use Rattle.iocm_list.specs.Seen.{seen_if_wanted, seen_of}
-use Rattle.iocm_list.specs.WantedRows.{wants_image, wants_number, wants_online}
-use Rattle.iocm_list.specs.declared.seen_by.SeenBy.{SeenBy}
+use Rattle.iocm_sight.specs.Seen.{seen_if_wanted, seen_of}
+use Rattle.iocm_sight.specs.WantedRows.{wants_image, wants_number, wants_online}
+use Rattle.iocm_sight.specs.declared.seen_by.SeenBy.{SeenBy}
 use Rattle.iocm_list.proofs.WordedRows.{all_filter, all_map, each_map, units_word}
 
 -- ---- the names of images that see a device

@@ -26,7 +26,7 @@ use Rattle.iocm_list.specs.declared.unit_row.UnitRow.{UnitRow}
 use Rattle.iocm_list.specs.Again.{PathTableIsReadAgain, UnitTableIsReadAgain, lists_names}
 use Rattle.iocm_list.specs.Cells.{adapter_word, channel_word, cuadd_word, path_cells, path_columns, port_part}
 use Rattle.iocm_list.specs.Cells.{unit_cells, unit_columns, use_word, virtual_word}
-use Rattle.iocm_list.specs.Connected.{paths_of}
+use Rattle.iocm_sight.specs.Connected.{paths_of}
 use Rattle.iocm_list.specs.PathRows.{has_online, is_path_wanted, path_row, path_rows, users_of}
 use Rattle.iocm_list.specs.UnitRows.{unit_rows}
 

@@ -19,9 +19,10 @@ use Rattle.iocm_words.specs.declared.ranges.SetNumbers.{SetNumbers}
 use Rattle.iocm_list.specs.DeviceCells.{image_cells, image_columns}
 use Rattle.iocm_list.specs.DeviceExamples.{AllAreTold, DevicesAreLeft, DevicesAreListed, seen_configuration}
 use Rattle.iocm_list.specs.DeviceExamples.{seen_records}
-use Rattle.iocm_list.specs.ImageRows.{ImageRow, image_rows, is_in, numbers_in, online_of, path_numbers, paths_of}
-use Rattle.iocm_list.specs.ImageRows.{reaches_unit, reaches_word, seen_counts}
-use Rattle.iocm_list.specs.WantedRows.{wants_image, wants_number}
+use Rattle.iocm_list.specs.ImageRows.{ImageRow, image_rows}
+use Rattle.iocm_sight.specs.Counts.{is_in, numbers_in, online_of, path_numbers, paths_of}
+use Rattle.iocm_sight.specs.Counts.{reaches_unit, reaches_word, seen_counts}
+use Rattle.iocm_sight.specs.WantedRows.{wants_image, wants_number}
 
 -- ---- the rows of images by what is found, and by all records
 

@@ -9,12 +9,12 @@ use Rattle.iocm_model.specs.Machine.Record.{DeviceRecord}
 use Rattle.iocm_filter.specs.Wanted.{Wanted, nothing}
 use Rattle.iocm_deck_writer.specs.Device.{Run, are_alike, continues, runs, runs_from}
 use Rattle.iocm_list.specs.AllDevices.{AllImagesAreListed, RowsAreTheDevices, devices_in, in_ranges}
-use Rattle.iocm_list.specs.Connected.{own_key}
+use Rattle.iocm_sight.specs.Connected.{own_key}
 use Rattle.iocm_list.specs.DeviceRows.{device_row, is_listed}
 use Rattle.iocm_list.specs.ImageRows.{image_row, is_image_listed}
-use Rattle.iocm_list.specs.WantedRows.{wants_number}
-use Rattle.iocm_list.specs.declared.joined.DeviceKey.{DeviceKey}
-use Rattle.iocm_list.proofs.Alike.{continues_alike}
+use Rattle.iocm_sight.specs.WantedRows.{wants_number}
+use Rattle.iocm_sight.specs.declared.devices.DeviceKey.{DeviceKey}
+use Rattle.iocm_sight.proofs.Alike.{continues_alike}
 
 keys_in : Run → List DeviceKey
 keys_in r = map (λ k. record { set = r.first.set; number = r.first.number + k }) (range_with_len 0 r.count)

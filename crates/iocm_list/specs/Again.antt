@@ -8,7 +8,7 @@ use Rattle.iocm_filter.specs.Wanted.{Wanted}
 use Rattle.iocm_words.specs.Again.{lines_of, words_of}
 use Rattle.iocm_words.specs.Table.{lines}
 use Rattle.iocm_list.specs.Cells.{path_cells, path_columns, path_table, unit_cells, unit_columns, unit_table}
-use Rattle.iocm_list.specs.Connected.{paths_of}
+use Rattle.iocm_sight.specs.Connected.{paths_of}
 use Rattle.iocm_list.specs.PathRows.{path_rows}
 use Rattle.iocm_list.specs.UnitRows.{unit_rows}
 

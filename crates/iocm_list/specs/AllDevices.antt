@@ -4,11 +4,11 @@ use Rattle.std.specs.List.{flat_map, range_with_len}
 use Rattle.iocm_model.specs.Machine.Configuration.{Configuration, devices_of, images_of}
 use Rattle.iocm_filter.specs.declared.meant.DeviceRange.{DeviceRange}
 use Rattle.iocm_filter.specs.Wanted.{Wanted, nothing}
-use Rattle.iocm_list.specs.Connected.{own_key}
+use Rattle.iocm_sight.specs.Connected.{own_key}
 use Rattle.iocm_list.specs.DeviceRows.{DeviceRow, device_rows}
 use Rattle.iocm_list.specs.ImageRows.{image_row, image_rows}
-use Rattle.iocm_list.specs.WantedRows.{wants_number}
-use Rattle.iocm_list.specs.declared.joined.DeviceKey.{DeviceKey}
+use Rattle.iocm_sight.specs.WantedRows.{wants_number}
+use Rattle.iocm_sight.specs.declared.devices.DeviceKey.{DeviceKey}
 
 -- the devices of a row, written out
 abbrev pub devices_in : DeviceRow → List DeviceKey

@@ -1,10 +1,10 @@
 -- The cells of rows of devices and of images as words, and the tables of them.
 -- Bytes by their codes: 46 is a point.
-use Rattle.std.specs.Prelude.{ℕ, ◌+◌, ◌-◌, ◌==◌, ◌&&◌, nat_lt, if◌then◌else◌, List, [], ◌∷◌, ◌++◌, map, length, codes}
+use Rattle.std.specs.Prelude.{ℕ, ◌+◌, ◌-◌, ◌==◌, ◌&&◌, nat_lt, if◌then◌else◌, None, List, [], ◌∷◌, ◌++◌, map, length}
+use Rattle.std.specs.Prelude.{codes}
 use Rattle.std.specs.Fmt.{decimal}
 use Rattle.iocm_types.specs.declared.css_path.CssPath.{CssPath}
 use Rattle.iocm_types.specs.declared.image.Image.{Image}
-use Rattle.iocm_types.specs.declared.link.Link.TheVariants as link
 use Rattle.iocm_types.specs.Print.{hex1, hex2, hex4}
 use Rattle.iocm_model.specs.Machine.Configuration.{Configuration, images_of}
 use Rattle.iocm_filter.specs.Wanted.{Wanted}
@@ -19,13 +19,13 @@ use Rattle.iocm_words.specs.Words.{carried_word, comma_word}
 use Rattle.iocm_list.specs.Cells.{column}
 use Rattle.iocm_list.specs.DeviceRows.{DeviceRow, device_rows}
 use Rattle.iocm_list.specs.ImageRows.{ImageRow, image_rows}
-use Rattle.iocm_list.specs.declared.seen_by.SeenBy.{SeenBy}
+use Rattle.iocm_sight.specs.declared.seen_by.SeenBy.{SeenBy}
 
 -- ---- devices
 
 -- no link of a path is told
 abbrev pub unlinked : CssPath → LinkedPath
-unlinked p = record { css = p.css; path = p.path; link = link.None }
+unlinked p = record { css = p.css; path = p.path; link = None }
 
 abbrev pub counts_of : SeenBy → ImagePaths
 counts_of s = record { online = s.online; installed = s.installed; name = s.name }

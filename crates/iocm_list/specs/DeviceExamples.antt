@@ -10,7 +10,7 @@ use Rattle.iocm_list.specs.DeviceRows.{DeviceRow, device_rows}
 use Rattle.iocm_list.specs.Examples.{by_devices, by_images, by_path, by_unit, image_record, on_path, online_record}
 use Rattle.iocm_list.specs.Examples.{operand, path_record, text_of}
 use Rattle.iocm_list.specs.ImageRows.{ImageRow, image_rows}
-use Rattle.iocm_list.specs.declared.seen_by.SeenBy.{SeenBy}
+use Rattle.iocm_sight.specs.declared.seen_by.SeenBy.{SeenBy}
 
 -- ---- the configuration
 

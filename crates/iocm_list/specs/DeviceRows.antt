@@ -6,11 +6,11 @@ use Rattle.iocm_model.specs.Machine.Configuration.{Configuration, lookup_of, dev
 use Rattle.iocm_model.specs.Machine.Numbering.{is_empty}
 use Rattle.iocm_filter.specs.Wanted.{Wanted, asks}
 use Rattle.iocm_deck_writer.specs.Device.{Run, runs}
-use Rattle.iocm_list.specs.Connected.{wants_paths, wants_units}
-use Rattle.iocm_list.specs.Seen.{images_by, paths_by}
+use Rattle.iocm_sight.specs.Connected.{wants_paths, wants_units}
+use Rattle.iocm_sight.specs.Seen.{images_by, paths_by}
 use Rattle.iocm_list.specs.Texts.{carried_text}
-use Rattle.iocm_list.specs.WantedRows.{wants_number}
-use Rattle.iocm_list.specs.declared.seen_by.SeenBy.{SeenBy}
+use Rattle.iocm_sight.specs.WantedRows.{wants_number}
+use Rattle.iocm_sight.specs.declared.seen_by.SeenBy.{SeenBy}
 
 -- a run of devices: the first, and how many there are; the device type (UNIT) and the control units; the unit address
 -- of the first; the paths, and the images that see it

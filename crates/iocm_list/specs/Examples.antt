@@ -161,7 +161,7 @@ paths_listed =
     [] (codes "A01" ∷ codes "A03" ∷ []) 0x7000
     ∷ path_listed 1 0x40 Shared (record no_texts { pchid = Some (codes "120") }) 5 (codes "A11" ∷ []) [] 0x2000 ∷ []
 
-abbrev pub with_link : ℕ → ℕ → Link → LinkedPath
+abbrev pub with_link : ℕ → ℕ → Option Link → LinkedPath
 with_link css number own = record { css = css; path = number; link = own }
 
 abbrev pub devices_listed : ℕ → ℕ → ℕ → DeviceNumbers
@@ -174,7 +174,7 @@ units_listed =
       unit_type = Some (codes "2107");
       cuadd = Some 0;
       addresses = record { start = 0; count = 256 } ∷ [];
-      paths = with_link 0 0x40 (link.Long 0x6512) ∷ with_link 1 0x40 (link.Long 0x6512) ∷ [];
+      paths = with_link 0 0x40 (Some (link.Long 0x6512)) ∷ with_link 1 0x40 (Some (link.Long 0x6512)) ∷ [];
       devices = 5;
       ranges = devices_listed 0 0x2000 0x2002 ∷ devices_listed 0 0x2010 0x2010 ∷ devices_listed 1 0x2011 0x2011 ∷ [];
     }
@@ -183,7 +183,7 @@ units_listed =
       unit_type = None;
       cuadd = None;
       addresses = record { start = 0; count = 16 } ∷ record { start = 0x1E; count = 1 } ∷ [];
-      paths = with_link 0 0xF4 link.None ∷ [];
+      paths = with_link 0 0xF4 None ∷ [];
       devices = 1;
       ranges = devices_listed 1 0x2011 0x2011 ∷ [];
     } ∷ []

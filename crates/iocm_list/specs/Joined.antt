@@ -1,7 +1,7 @@
 -- Devices as ranges, in which those are joined whose numbers follow each other.
 use Rattle.std.specs.Prelude.{◌+◌, ◌==◌, ◌&&◌, Bool, if◌then◌else◌, List, [], ◌∷◌}
 use Rattle.iocm_words.specs.declared.ranges.DeviceNumbers.{DeviceNumbers}
-use Rattle.iocm_list.specs.declared.joined.DeviceKey.{DeviceKey}
+use Rattle.iocm_sight.specs.declared.devices.DeviceKey.{DeviceKey}
 
 -- a device alone, and a range that ends with another device
 abbrev pub alone : DeviceKey → DeviceNumbers

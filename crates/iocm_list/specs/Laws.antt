@@ -4,8 +4,8 @@ use Rattle.std.specs.List.{flat_map, range_with_len}
 use Rattle.iocm_model.specs.Machine.Configuration.{Configuration}
 use Rattle.iocm_filter.specs.Wanted.{nothing}
 use Rattle.iocm_words.specs.declared.ranges.DeviceNumbers.{DeviceNumbers}
-use Rattle.iocm_list.specs.declared.joined.DeviceKey.{DeviceKey}
-use Rattle.iocm_list.specs.Connected.{paths_of, units_of}
+use Rattle.iocm_sight.specs.declared.devices.DeviceKey.{DeviceKey}
+use Rattle.iocm_sight.specs.Connected.{paths_of, units_of}
 use Rattle.iocm_list.specs.Joined.{follows, joined_ranges}
 use Rattle.iocm_list.specs.PathRows.{path_row, path_rows}
 use Rattle.iocm_list.specs.UnitRows.{unit_row, unit_rows}

@@ -7,7 +7,7 @@ use Rattle.iocm_model.specs.Machine.Configuration.{Configuration, lookup_of, rec
 use Rattle.iocm_model.specs.Machine.Mask.{is_online}
 use Rattle.iocm_values.specs.NameSet.{name_set}
 use Rattle.iocm_filter.specs.Wanted.{Wanted}
-use Rattle.iocm_list.specs.Connected.{as_path, units_of_path, devices_on, wants_each}
+use Rattle.iocm_sight.specs.Connected.{as_path, units_of_path, devices_on, wants_each}
 use Rattle.iocm_list.specs.Texts.{carried_text}
 use Rattle.iocm_list.specs.declared.path_row.PathRow.{PathRow}
 use Rattle.iocm_list.specs.declared.path_row.PathTexts.{PathTexts}

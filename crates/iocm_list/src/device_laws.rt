@@ -8,7 +8,6 @@ ghost use Rattle.iocm_list.specs.DeviceExamples.{
   seen_configuration,
 };
 ghost use Rattle.iocm_list.specs.DevicesAgain.{DeviceTableIsReadAgain, ImageTableIsReadAgain};
-ghost use Rattle.iocm_list.specs.SeenViews.{SeenIsTheView};
 
 /// In a small configuration filters leave the devices and the images, and the tables of them are, as
 /// they are worked by hand.
@@ -17,16 +16,6 @@ pub fn devices_are_listed_as_worked()
     ensures left { DevicesAreLeft seen_configuration }
     ensures listed { DevicesAreListed seen_configuration }
     ensures all { AllAreTold }
-{}
-
-/// What a row of devices has of an image is the view of its subchannel at a device's number, by
-/// whatever numbers of the configuration, and so are the devices that a row of images counts. Where a
-/// device has no number, the image sees nothing.
-///
-/// Promise: what a table of devices says that an image sees is the view of its subchannels.
-#[tactic(auto, using(crate::proofs::SeenViews::seen_is_the_view))]
-pub fn what_is_seen_is_the_view()
-    ensures { SeenIsTheView }
 {}
 
 /// The words of the lines of both tables are the headings and the cells of the rows. So each line has

@@ -2,16 +2,15 @@ ghost use Rattle.std.specs.Prelude.{◌≡◌, ◌++◌, ◌||◌, [], ◌∷◌
 ghost use Rattle.iocm_model.specs.Machine.Configuration.{records_of};
 ghost use Rattle.iocm_filter.specs.Wanted as wanted;
 ghost use Rattle.iocm_list.specs.DeviceRows as meaning;
-ghost use Rattle.iocm_list.specs.Seen.{sights_in};
+ghost use Rattle.iocm_sight.specs.Seen.{sights_in};
 
 use crate::DeviceRow;
-use crate::listing::{wants_paths, wants_units};
-use crate::paths_by::paths_by;
-use crate::runs::{DeviceRun, runs_asked};
-use crate::sight::{NamedSight, images_by, sights_asked};
 use crate::texts::carried_text;
 use iocm_config::Config;
 use iocm_filter::Filters;
+use iocm_sight::{
+    DeviceRun, NamedSight, images_by, paths_by, runs_asked, sights_asked, wants_paths, wants_units,
+};
 use std::alloc::{AllocError, Global};
 
 /// The rows of the devices that filters ask for, in the order of their keys. A view is asked for once

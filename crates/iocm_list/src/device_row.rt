@@ -1,6 +1,6 @@
-use crate::SeenBy;
 use crate::device_words::{addresses_from, range_word, seen_word, unlinked_word};
 use crate::path_words::text_word;
+use iocm_sight::SeenBy;
 use iocm_types::{CssPath, DevNo, SetNo, Text, UnitNo};
 use iocm_words::{count_word, units_word};
 use std::alloc::{AllocError, Global};
@@ -10,21 +10,21 @@ use std::marker::Model;
 #[derive(Drop)]
 pub struct DeviceRow {
     /// The subchannel set of the devices.
-    pub(crate) set: SetNo,
+    pub set: SetNo,
     /// The number of the first.
-    pub(crate) first: DevNo,
+    pub first: DevNo,
     /// How many devices there are.
-    pub(crate) count: usize,
+    pub count: usize,
     /// The device type, as UNIT has it.
-    pub(crate) device_type: Option<Text>,
+    pub device_type: Option<Text>,
     /// The control units.
-    pub(crate) units: Vec<UnitNo>,
+    pub units: Vec<UnitNo>,
     /// The unit address of the first.
-    pub(crate) unit_address: u8,
+    pub unit_address: u8,
     /// The paths, by channel subsystem.
-    pub(crate) paths: Vec<CssPath>,
+    pub paths: Vec<CssPath>,
     /// The images that see the devices, of those that are asked for.
-    pub(crate) images: Vec<SeenBy>,
+    pub images: Vec<SeenBy>,
 }
 
 impl Model for DeviceRow {
@@ -43,7 +43,7 @@ impl Model for DeviceRow {
       images = r.images.items;
     } };
 
-    ghost use Rattle.iocm_list.specs.Fits.{AreDevices};
+    ghost use Rattle.iocm_sight.specs.Fits.{AreDevices};
 
     ghost invariant = { λ r. AreDevices r.first r.unit_address r.count };
 }

@@ -6,11 +6,12 @@ ghost use Rattle.iocm_words.specs.Ranges.{devices_word, from_to};
 ghost use Rattle.iocm_words.specs.Table.{rows_of};
 ghost use Rattle.iocm_list.specs.DeviceCells as meaning;
 
-use crate::{DeviceRow, SeenBy, device_rows};
+use crate::{DeviceRow, device_rows};
 use iocm_config::Config;
 use iocm_filter::Filters;
 use iocm_record::RecordBody;
-use iocm_types::{CssPath, DevNo, Link, SetNo};
+use iocm_sight::SeenBy;
+use iocm_types::{CssPath, DevNo, SetNo};
 use iocm_words::{
     Column, DeviceNumbers, ImagePaths, LinkedPath, Side, addresses_word, all_images_word,
     devices_word, images_word, paths_word, table_text,
@@ -140,7 +141,7 @@ fn unlinked(alloc: Global, paths: &[CssPath]) -> Result<Vec<LinkedPath>, AllocEr
         linked.push(LinkedPath {
             css: path.css,
             path: path.path,
-            link: Link::None,
+            link: None,
         })?;
     }
     Ok(linked)

@@ -5,18 +5,17 @@ ghost use Rattle.iocm_model.specs.Machine.Numbering.{subsystems};
 ghost use Rattle.iocm_model.specs.Machine.Sight.{sees};
 ghost use Rattle.iocm_deck_writer.specs.Device.{runs};
 ghost use Rattle.iocm_list.specs.ImageRows as meaning;
-ghost use Rattle.iocm_list.specs.WantedRows.{wants_number};
+ghost use Rattle.iocm_sight.specs.Counts.{numbers_in};
+ghost use Rattle.iocm_sight.specs.WantedRows.{wants_number};
 
 use crate::ImageRow;
-use crate::image_paths::{count_online, count_paths, reaches_asked, reaches_asked_unit};
-use crate::runs::{DeviceRun, all_runs, runs_asked};
-use crate::seen_counts::seen_counts;
-use crate::set_numbers::all_numbers;
-use crate::sight::NamedSight;
-use crate::wanted_rows::wants_image;
 use iocm_config::Config;
 use iocm_filter::Filters;
 use iocm_record::{Record, RecordBody};
+use iocm_sight::{
+    DeviceRun, NamedSight, all_numbers, all_runs, count_online, count_paths, reaches_asked,
+    reaches_asked_unit, runs_asked, seen_counts, wants_image,
+};
 use iocm_types::{Css, Image, Mif, Name};
 use iocm_words::SetNumbers;
 use std::alloc::{AllocError, Global};
@@ -33,7 +32,7 @@ struct Listed<'a> {
     ghost all: { every.items ≡ runs (devices_of config.now.records) },
     ghost few: { sum_by (λ r. r.count) every.items < 2 ^ 64 },
     ghost in_ranges: { asked.items ≡ runs (filter (wants_number filters.now) (devices_of config.now.records)) },
-    ghost numbered: { map (λ v. v.items) numbers.items ≡ map (meaning.numbers_in config.now.records) subsystems },
+    ghost numbered: { map (λ v. v.items) numbers.items ≡ map (numbers_in config.now.records) subsystems },
 }
 
 /// The rows of the images that filters ask for, in the order of their keys. A view is asked for once
@@ -121,7 +120,7 @@ fn image_row(
 /// The numbers of the sets in use in a channel subsystem.
 fn numbers_of(alloc: Global, listed: &Listed<'_>, css: Css) -> Result<Vec<SetNumbers>, AllocError>
     ensures { IfOk result
-        (λ numbers. numbers.items ≡ meaning.numbers_in listed.entry.now.config.now.records css) }
+        (λ numbers. numbers.items ≡ numbers_in listed.entry.now.config.now.records css) }
 {
     let place = usize::from(css.number());
     let own = &listed.numbers[place];

@@ -8,21 +8,21 @@ use std::marker::Model;
 #[derive(Drop)]
 pub struct ImageRow {
     /// The image.
-    pub(crate) image: Image,
+    pub image: Image,
     /// Its name.
-    pub(crate) name: Name,
+    pub name: Name,
     /// How many paths of its channel subsystem it may use.
-    pub(crate) paths: u32,
+    pub paths: u32,
     /// How many of these are online to it.
-    pub(crate) online: u32,
+    pub online: u32,
     /// How many devices it sees.
-    pub(crate) devices: usize,
+    pub devices: usize,
     /// How many of these have no path online.
-    pub(crate) no_path: usize,
+    pub no_path: usize,
     /// How many have one.
-    pub(crate) one_path: usize,
+    pub one_path: usize,
     /// The subchannel numbers of its channel subsystem, of each set in use.
-    pub(crate) numbers: Vec<SetNumbers>,
+    pub numbers: Vec<SetNumbers>,
 }
 
 impl Model for ImageRow {

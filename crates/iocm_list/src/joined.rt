@@ -1,18 +1,9 @@
 ghost use Rattle.std.specs.Prelude.{◌≡◌, ◌++◌, IfOk, OnOk};
 ghost use Rattle.iocm_list.specs.Joined as meaning;
 
-use iocm_types::{DevNo, SetNo};
+use iocm_sight::DeviceKey;
 use iocm_words::DeviceNumbers;
 use std::alloc::{AllocError, Global};
-
-/// A device by its subchannel set and its number there.
-#[derive(Clone, Copy, Debug, PartialEq, Eq)]
-pub struct DeviceKey {
-    /// The subchannel set.
-    pub set: SetNo,
-    /// The number, 0000 to FFFF.
-    pub number: DevNo,
-}
 
 /// The ranges of devices that are listed in the order of their keys: those of one subchannel set whose
 /// numbers follow each other are in one range.

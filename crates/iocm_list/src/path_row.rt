@@ -2,13 +2,12 @@ ghost use Rattle.std.specs.Prelude.{◌≡◌, ◌∷◌, ◌++◌, [], filter, 
 ghost use Rattle.iocm_record.specs.Meaning.{path_of};
 ghost use Rattle.iocm_list.specs.PathRows as meaning;
 
-use crate::links::{devices_on, units_of_path};
-use crate::listing::{Listing, wants_each};
 use crate::texts::carried_text;
 use iocm_config::Config;
 use iocm_filter::Filters;
 use iocm_lookup::{RecordKind, records_of_kind};
 use iocm_record::{Carried, PathFields, Record, RecordBody};
+use iocm_sight::{Listing, devices_on, units_of_path, wants_each};
 use iocm_types::{Chpid, Css, CssPath, Key, List, Name, PathKind, Text, UnitNo};
 use iocm_values::set_of_names;
 use std::alloc::{AllocError, Global};

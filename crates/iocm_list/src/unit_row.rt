@@ -1,19 +1,15 @@
-ghost use Rattle.std.specs.Prelude.{◌≡◌, ◌∷◌, ◌++◌, ◌==◌, [], map, IfOk, OnOk};
-ghost use Rattle.iocm_model.specs.Machine.PathList.{paths_in};
-ghost use Rattle.iocm_model.specs.Rules.EachRule.{links_in, with_links};
+ghost use Rattle.std.specs.Prelude.{◌≡◌, ◌∷◌, ◌++◌, [], IfOk, OnOk};
 ghost use Rattle.iocm_record.specs.Meaning.{unit_of};
 ghost use Rattle.iocm_list.specs.UnitRows as meaning;
 
-use crate::DeviceKey;
 use crate::joined::joined_ranges;
-use crate::links::devices_on;
-use crate::listing::{Listing, wants_each};
 use crate::texts::carried_text;
 use iocm_config::Config;
 use iocm_filter::Filters;
-use iocm_lookup::{RecordKind, records_of_kind, subsystems};
+use iocm_lookup::{RecordKind, records_of_kind};
 use iocm_record::{Record, RecordBody, UnitFields};
-use iocm_types::{Chpid, Css, CssLink, CssPath, Link, List, Text, UnitNo, UnitRange};
+use iocm_sight::{DeviceKey, Listing, devices_on, linked_paths, wants_each};
+use iocm_types::{List, Text, UnitNo, UnitRange};
 use iocm_words::{DeviceNumbers, LinkedPath};
 use std::alloc::{AllocError, Global};
 
@@ -107,84 +103,4 @@ fn unit_row(alloc: Global, unit: &UnitFields, devices: &[DeviceKey]) -> Result<U
         devices: devices.len(),
         ranges: List::from_vec(joined_ranges(alloc, devices)?),
     })
-}
-
-/// The paths of a control unit with their links, by channel subsystem.
-fn linked_paths(alloc: Global, unit: &UnitFields) -> Result<Vec<LinkedPath>, AllocError>
-    ensures { IfOk result (λ paths. paths.items ≡ meaning.linked_of (unit_of unit.now)) }
-{
-    let all = subsystems();
-    let mut listed = Vec::new(alloc);
-    for css in all.as_slice() {
-        put_linked(&mut listed, alloc, *css, unit)?;
-    }
-    Ok(listed)
-}
-
-/// Puts the paths of a control unit in a channel subsystem with their links behind others.
-fn put_linked(
-    listed: &mut Vec<LinkedPath>,
-    alloc: Global,
-    css: Css,
-    unit: &UnitFields,
-) -> Result<(), AllocError>
-    ensures { OnOk result (listed.new.items ≡ listed.old.items ++ meaning.linked_in (unit_of unit.now) css) }
-{
-    let links = links_in(alloc, css, unit.links.as_slice())?;
-    let paths = paths_in(alloc, css, unit.paths.as_slice())?;
-    put_with_links(listed, css, paths.as_slice(), links.as_slice())
-}
-
-/// The links of a channel subsystem among others, in their order.
-fn links_in(alloc: Global, css: Css, links: &[CssLink]) -> Result<Vec<Link>, AllocError>
-    ensures { IfOk result (λ found. found.items ≡ links_in css links.now) }
-{
-    let mut found = Vec::new(alloc);
-    for link in links {
-        if link.css == css {
-            found.push(link.link)?;
-        }
-    }
-    Ok(found)
-}
-
-/// The paths of a channel subsystem among others, in their order.
-fn paths_in(alloc: Global, css: Css, paths: &[CssPath]) -> Result<Vec<Chpid>, AllocError>
-    ensures { IfOk result (λ found. found.items ≡ paths_in css paths.now) }
-{
-    let mut found = Vec::new(alloc);
-    for path in paths {
-        if path.css == css {
-            found.push(path.path)?;
-        }
-    }
-    Ok(found)
-}
-
-/// Puts paths of a channel subsystem, each with the link at its place, behind others.
-fn put_with_links(
-    listed: &mut Vec<LinkedPath>,
-    css: Css,
-    paths: &[Chpid],
-    links: &[Link],
-) -> Result<(), AllocError>
-    ensures { OnOk result (listed.new.items ≡ listed.old.items
-        ++ map (meaning.linked_at css) (with_links paths.now links.now)) }
-{
-    for place in 0..paths.len() {
-        let link = link_at(links, place);
-        let path = paths[place];
-        listed.push(LinkedPath { css, path, link })?;
-    }
-    Ok(())
-}
-
-/// The link at a place; past the end there is none.
-fn link_at(links: &[Link], place: usize) -> Link
-    ensures { result ≡ meaning.link_at links.now place }
-{
-    match links.get(place) {
-        Some(link) => *link,
-        None => Link::None,
-    }
 }

@@ -11,7 +11,8 @@ use Rattle.iocm_model.specs.Machine.Record.{PathRecord, UnitRecord, DeviceRecord
 use Rattle.iocm_model.specs.Rules.EachRule.{cuadd_or_zero, linked_paths, links_in, same_link, with_links}
 use Rattle.iocm_difference.proofs.SameRecords.{own_kind, own_link, own_name, own_number, own_operands, own_option}
 use Rattle.iocm_unit_rules.specs.Links.{share_link_on}
-use Rattle.iocm_plan.specs.Routes.{has_path, is_one_device, is_one_path, is_one_route, is_one_unit, path_at}
+use Rattle.iocm_sight.specs.Connected.{has_path}
+use Rattle.iocm_plan.specs.Routes.{is_one_device, is_one_path, is_one_route, is_one_unit, path_at}
 use Rattle.iocm_plan.specs.Routes.{unit_record}
 use Rattle.iocm_plan.specs.Routes.{if_it_has, unit_over, unit_with}
 use Rattle.iocm_plan.specs.Seen.{Side}

@@ -8,28 +8,28 @@ use Rattle.iocm_model.specs.Machine.Configuration.{Configuration}
 use Rattle.iocm_plan.specs.Runs.{alone, are_alike, continues, devices_from, devices_in_run, devices_of_both, runs_among}
 use Rattle.iocm_plan.specs.Runs.{runs_from, with_one_more}
 use Rattle.iocm_plan.specs.ToldAlike.{RunsAreTheDevices, RunsAreToldAlike}
-use Rattle.iocm_plan.specs.declared.both.DeviceNumber.{DeviceNumber}
+use Rattle.iocm_sight.specs.declared.devices.DeviceKey.{DeviceKey}
 use Rattle.iocm_plan.specs.declared.runs.DeviceRun.{DeviceRun}
 use Rattle.iocm_plan.proofs.ToldAlike.{told_alike}
 
 -- one more device at the end
-abbrev at_end : ℕ → ℕ → List DeviceNumber
+abbrev at_end : ℕ → ℕ → List DeviceKey
 at_end set number = record { set = set; number = number } ∷ []
 
 one_more : (set number n : ℕ) → devices_from set number (suc n) ≡ devices_from set number n ++ at_end set (number + n)
 one_more set number zero = let e : number ≡ number + 0 = omega arith in ap (at_end set) e
 one_more set number (suc n) =
     let e : number + 1 + n ≡ number + suc n = omega arith in
-    ap (λ (ks : List DeviceNumber). record { set = set; number = number } ∷ ks)
+    ap (λ (ks : List DeviceKey). record { set = set; number = number } ∷ ks)
     (one_more set (number + 1) n ∙ ap (λ x. devices_from set (number + 1) n ++ at_end set x) e)
 
 module _ (c d : Configuration) where
-  parts : (r : DeviceRun) (k : DeviceNumber) → continues c d r k ≡ true
+  parts : (r : DeviceRun) (k : DeviceKey) → continues c d r k ≡ true
       → ((k.set == r.first.set && k.number == r.first.number + r.count) ≡ true) × (are_alike c d r.first k ≡ true)
   parts r k h = and_parts (k.set == r.first.set && k.number == r.first.number + r.count) (are_alike c d r.first k) h
 
   -- a run with a device that continues it
-  longer : (r : DeviceRun) (k : DeviceNumber) → continues c d r k ≡ true
+  longer : (r : DeviceRun) (k : DeviceKey) → continues c d r k ≡ true
       → devices_in_run (with_one_more r) ≡ devices_in_run r ++ k ∷ []
   longer r k h =
       let p = and_parts (k.set == r.first.set) (k.number == r.first.number + r.count) (parts r k h).0 in
@@ -40,7 +40,7 @@ module _ (c d : Configuration) where
         number = sym (eqb-true k.number (r.first.number + r.count) p.1) i;
       } ∷ [])
 
-  from_run : (r : DeviceRun) (ks : List DeviceNumber)
+  from_run : (r : DeviceRun) (ks : List DeviceKey)
       → flat_map devices_in_run (runs_from c d r ks) ≡ devices_in_run r ++ ks
   from_run r [] = refl
   from_run r (k ∷ ks) = by (continues c d r k) refl (from_run (with_one_more r) ks) (from_run (alone k) ks)
@@ -53,7 +53,7 @@ module _ (c d : Configuration) where
       by true is more other = more ∙ ap (λ xs. xs ++ ks) (longer r k is) ∙ append_assoc (devices_in_run r) (k ∷ []) ks
       by false is more other = ap (λ xs. devices_in_run r ++ xs) other
 
-  among : (ks : List DeviceNumber) → flat_map devices_in_run (runs_among c d ks) ≡ ks
+  among : (ks : List DeviceKey) → flat_map devices_in_run (runs_among c d ks) ≡ ks
   among [] = refl
   among (k ∷ ks) = from_run (alone k) ks
 

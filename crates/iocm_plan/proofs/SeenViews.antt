@@ -1,23 +1,19 @@
 -- What is seen of a device is the view at its number, and nothing where it has no number.
-use Rattle.std.proofs.Common.{◌≡◌, ℕ, ◌&&◌, Bool, true, false, cond, not, List, [], ◌∷◌, Option, None, Some}
-use Rattle.std.proofs.Common.{refl, sym, ap, ◌∙◌}
+use Rattle.std.proofs.Common.{◌≡◌, ℕ, false, Option, None, Some, refl, sym, ap, ◌∙◌}
 use Rattle.std.specs.Prelude.{is_some}
 use Rattle.std.specs.FinMap.{get}
-use Rattle.std.specs.List.{list_any}
 use Rattle.std.specs.Option.{option_and_then, option_map, option_map_or}
-use Rattle.std.proofs.lemmas.Bool.{false≢true}
 use Rattle.iocm_types.specs.declared.key.Key.{Key}
 use Rattle.iocm_types.specs.declared.key.Key.TheVariants as key
 use Rattle.iocm_model.specs.Machine.Configuration.{Lookup, lookup_of, as_device, as_image}
-use Rattle.iocm_model.specs.Machine.Numbering.{is_empty, is_reached, is_record_reached}
-use Rattle.iocm_model.specs.Machine.PathList.{path_list}
+use Rattle.iocm_model.specs.Machine.Numbering.{is_reached, is_record_reached}
 use Rattle.iocm_model.specs.Machine.Record.{Rec, ImageRecord, DeviceRecord, key_of, id, resource, image, limit, path}
 use Rattle.iocm_model.specs.Machine.Record.{unit, device, online}
-use Rattle.iocm_model.specs.Machine.Sight.{is_candidate, reaches}
-use Rattle.iocm_model.specs.Machine.View.{device_record, image_view, view_if_seen, view_of}
+use Rattle.iocm_model.specs.Machine.View.{device_record, image_view, view_if_seen}
 use Rattle.iocm_model.proofs.Machine.OwnKeys.{keyed_own}
 use Rattle.iocm_model.proofs.Numbers.Cells.{has_device}
 use Rattle.iocm_model.proofs.Numbers.Opening.{reached_places_are_of_devices}
+use Rattle.iocm_sight.proofs.SeenViews.{not_seen}
 use Rattle.iocm_plan.specs.Laws.{SeenIsTheView, place_for}
 use Rattle.iocm_plan.specs.Seen.{image_record, side_with, view_in}
 
@@ -64,22 +60,7 @@ device_there c css (Some (path x)) d is = cc
 device_there c css (Some (unit x)) d is = cc
 device_there c css (Some (online x)) d is = cc
 
--- ---- without paths nobody sees a device
-
-no_path : (c : Lookup) (css : ℕ) (name paths : List ℕ) → false ≡ not (is_empty paths)
-    → list_any (reaches c css name) paths ≡ false
-no_path c css name [] none = refl
-no_path c css name (p ∷ paths) some = absurd (false≢true some)
-
-and_false : (a b : Bool) → b ≡ false → (a && b) ≡ false
-and_false true b is = is
-and_false false b is = refl
-
-not_seen : (c : Lookup) (css : ℕ) (name : List ℕ) (d : DeviceRecord) → false ≡ is_reached c css d
-    → view_if_seen c css name d ≡ None
-not_seen c css name d none = ap (λ b. cond b (Some (view_of c css name d)) None)
-    (and_false (is_candidate name d.candidates) (list_any (reaches c css name) (path_list c css d.units))
-    (no_path c css name (path_list c css d.units) none))
+-- ---- what no path leads to isn't seen
 
 nothing_seen : (c : Lookup) (css : ℕ) (i : Option ImageRecord) (d : Option DeviceRecord)
     → ((r : ImageRecord) → i ≡ Some r → r.css ≡ css) → ((e : DeviceRecord) → d ≡ Some e → false ≡ is_reached c css e)

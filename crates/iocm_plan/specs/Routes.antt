@@ -2,15 +2,14 @@
 -- with another route may go off and on again, though no mask shows it.
 -- IOCP User's Guide, CHPID, CNTLUNIT and IODEVICE statements.
 use Rattle.std.specs.Prelude.{ℕ, Bool, false, ◌==◌, ◌&&◌, if◌then◌else◌, List, [], ◌∷◌, Option, None, Some}
-use Rattle.std.specs.List.{list_any}
 use Rattle.std.specs.Option.{option_and_then, option_eq, option_or}
-use Rattle.iocm_types.specs.declared.css_path.CssPath.{CssPath}
 use Rattle.iocm_types.specs.declared.key.Key.TheVariants as key
 use Rattle.iocm_model.specs.Machine.Configuration.{Lookup}
-use Rattle.iocm_model.specs.Machine.Record.{Rec, PathRecord, UnitRecord, DeviceRecord, path, unit}
+use Rattle.iocm_model.specs.Machine.Record.{PathRecord, UnitRecord, DeviceRecord}
 use Rattle.iocm_model.specs.Rules.EachRule.{cuadd_or_zero}
 use Rattle.iocm_difference.specs.Same.{same_kind, same_name, same_operands}
 use Rattle.iocm_unit_rules.specs.Links.{share_link_on}
+use Rattle.iocm_sight.specs.Connected.{as_path, as_unit, has_path}
 use Rattle.iocm_plan.specs.Seen.{Side}
 
 -- what a test gives of the first item of which it gives something
@@ -19,24 +18,12 @@ first_of give [] = None
 first_of give (x ∷ xs) = option_or (give x) (first_of give xs)
 
 -- the path of a number in the image's channel subsystem, if it is there
-abbrev pub as_path : Rec → Option PathRecord
-as_path (path p) = Some p
-as_path _ = None
-
 abbrev pub path_at : Side → ℕ → Option PathRecord
 path_at s p = option_and_then as_path (s.records (key.Path s.image.css p))
 
 -- the control unit of a number, if it is there
-abbrev pub as_unit : Rec → Option UnitRecord
-as_unit (unit u) = Some u
-as_unit _ = None
-
 abbrev pub unit_record : Lookup → ℕ → Option UnitRecord
 unit_record c number = option_and_then as_unit (c (key.Unit number))
-
--- a control unit has a path
-abbrev pub has_path : ℕ → ℕ → UnitRecord → Bool
-has_path css p u = list_any (λ (own : CssPath). (own.css == css) && (p == own.path)) u.paths
 
 -- of the device's control units that which has a path
 abbrev pub if_it_has : ℕ → ℕ → UnitRecord → Option UnitRecord

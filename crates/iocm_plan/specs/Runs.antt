@@ -6,29 +6,23 @@ use Rattle.std.specs.FinMap.{entries}
 use Rattle.std.specs.List.{filter_map}
 use Rattle.std.specs.Option.{option_eq}
 use Rattle.std.specs.Cmp.Lexicographic.{pointwise}
-use Rattle.iocm_types.specs.declared.key.Key.{Key}
-use Rattle.iocm_types.specs.declared.key.Key.TheVariants as key
 use Rattle.iocm_model.specs.Machine.Configuration.{Configuration, lookup_of}
 use Rattle.iocm_model.specs.Machine.Record.{DeviceRecord}
 use Rattle.iocm_model.specs.Machine.View.{device_record}
 use Rattle.iocm_difference.specs.Same.{same_names}
 use Rattle.iocm_difference.specs.Walks.{Pair, pairs_of}
 use Rattle.iocm_plan.specs.Routes.{is_one_device}
-use Rattle.iocm_plan.specs.declared.both.DeviceNumber.{DeviceNumber}
+use Rattle.iocm_sight.specs.Connected.{device_key}
+use Rattle.iocm_sight.specs.declared.devices.DeviceKey.{DeviceKey}
 use Rattle.iocm_plan.specs.declared.runs.DeviceRun.{DeviceRun}
 
 -- ---- the devices of both
 
--- the device of a key, if it is that of one
-abbrev pub device_key : Key → Option DeviceNumber
-device_key (key.Device set number) = Some (record { set = set; number = number })
-device_key _ = None
-
 -- every device of one of two configurations, or of both, in the order of keys
-abbrev pub devices_of_both : Configuration → Configuration → List DeviceNumber
+abbrev pub devices_of_both : Configuration → Configuration → List DeviceKey
 devices_of_both c d = filter_map (λ (p : Pair). device_key p.0) (pairs_of (entries c) (entries d))
 
-abbrev pub device_in : Configuration → DeviceNumber → Option DeviceRecord
+abbrev pub device_in : Configuration → DeviceKey → Option DeviceRecord
 device_in c k = device_record (lookup_of c) k.set k.number
 
 -- ---- alike
@@ -46,29 +40,29 @@ abbrev pub same_truth : Bool → Bool → Bool
 same_truth a b = if a then b else not b
 
 -- a change from one configuration to another does the same to two devices
-abbrev pub are_alike : Configuration → Configuration → DeviceNumber → DeviceNumber → Bool
+abbrev pub are_alike : Configuration → Configuration → DeviceKey → DeviceKey → Bool
 are_alike c d k l = option_eq is_seen_alike (device_in c k) (device_in c l)
     && option_eq is_seen_alike (device_in d k) (device_in d l)
     && same_truth (is_kept (device_in c k) (device_in d k)) (is_kept (device_in c l) (device_in d l))
 
 -- ---- runs: devices of one set that follow each other and are alike
 
-abbrev pub alone : DeviceNumber → DeviceRun
+abbrev pub alone : DeviceKey → DeviceRun
 alone k = record { first = k; count = 1 }
 
 abbrev pub with_one_more : DeviceRun → DeviceRun
 with_one_more r = record { first = r.first; count = r.count + 1 }
 
-abbrev pub continues : Configuration → Configuration → DeviceRun → DeviceNumber → Bool
+abbrev pub continues : Configuration → Configuration → DeviceRun → DeviceKey → Bool
 continues c d r k = k.set == r.first.set && k.number == r.first.number + r.count && are_alike c d r.first k
 
 -- a run and the devices behind it: one that continues it makes it longer, another one begins a run
-abbrev pub runs_from : Configuration → Configuration → DeviceRun → List DeviceNumber → List DeviceRun
+abbrev pub runs_from : Configuration → Configuration → DeviceRun → List DeviceKey → List DeviceRun
 runs_from c d r [] = r ∷ []
 runs_from c d r (k ∷ ks) =
     if continues c d r k then runs_from c d (with_one_more r) ks else r ∷ runs_from c d (alone k) ks
 
-abbrev pub runs_among : Configuration → Configuration → List DeviceNumber → List DeviceRun
+abbrev pub runs_among : Configuration → Configuration → List DeviceKey → List DeviceRun
 runs_among c d [] = []
 runs_among c d (k ∷ ks) = runs_from c d (alone k) ks
 
@@ -77,9 +71,9 @@ abbrev pub runs : Configuration → Configuration → List DeviceRun
 runs c d = runs_among c d (devices_of_both c d)
 
 -- the devices of a run, one by one
-abbrev pub devices_from : ℕ → ℕ → ℕ → List DeviceNumber
+abbrev pub devices_from : ℕ → ℕ → ℕ → List DeviceKey
 devices_from set number zero = []
 devices_from set number (suc n) = record { set = set; number = number } ∷ devices_from set (number + 1) n
 
-abbrev pub devices_in_run : DeviceRun → List DeviceNumber
+abbrev pub devices_in_run : DeviceRun → List DeviceKey
 devices_in_run r = devices_from r.first.set r.first.number r.count

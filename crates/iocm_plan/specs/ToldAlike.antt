@@ -8,7 +8,7 @@ use Rattle.iocm_model.specs.Machine.Configuration.{Configuration, lookup_of}
 use Rattle.iocm_plan.specs.Effects.{effect}
 use Rattle.iocm_plan.specs.RunEffects.{effect_on_run}
 use Rattle.iocm_plan.specs.Runs.{are_alike, continues, devices_in_run, devices_of_both, runs}
-use Rattle.iocm_plan.specs.declared.both.DeviceNumber.{DeviceNumber}
+use Rattle.iocm_sight.specs.declared.devices.DeviceKey.{DeviceKey}
 use Rattle.iocm_plan.specs.declared.effect.Effect.{Effect}
 use Rattle.iocm_plan.specs.declared.runs.DeviceRun.{DeviceRun}
 
@@ -26,7 +26,7 @@ without_number e = record {
 
 -- to devices that are alike a change does the same, whatever the image
 abbrev pub AlikeAreToldAlike : Type 0
-AlikeAreToldAlike = (c d : Configuration) (i : Image) (k l : DeviceNumber) → are_alike c d k l ≡ true
+AlikeAreToldAlike = (c d : Configuration) (i : Image) (k l : DeviceKey) → are_alike c d k l ≡ true
     → without_number (effect (lookup_of c) (lookup_of d) i k.set k.number)
     ≡ without_number (effect (lookup_of c) (lookup_of d) i l.set l.number)
 
@@ -36,6 +36,6 @@ RunsAreTheDevices = (c d : Configuration) → flat_map devices_in_run (runs c d)
 
 -- a device that continues a run is told as its first
 abbrev pub RunsAreToldAlike : Type 0
-RunsAreToldAlike = (c d : Configuration) (i : Image) (r : DeviceRun) (k : DeviceNumber) → continues c d r k ≡ true
+RunsAreToldAlike = (c d : Configuration) (i : Image) (r : DeviceRun) (k : DeviceKey) → continues c d r k ≡ true
     → without_number (effect_on_run (lookup_of c) (lookup_of d) i r)
     ≡ without_number (effect (lookup_of c) (lookup_of d) i k.set k.number)

@@ -4,17 +4,9 @@ ghost use Rattle.iocm_plan.specs.Runs as meaning;
 
 use iocm_config::Config;
 use iocm_difference::Merge;
-use iocm_types::{DevNo, Image, Key, SetNo};
+use iocm_sight::{DeviceKey, device_key};
+use iocm_types::{Image, Key};
 use std::alloc::{AllocError, Global};
-
-/// A device by its number in a subchannel set.
-#[derive(Clone, Copy, Debug, PartialEq, Eq)]
-pub struct DeviceNumber {
-    /// The subchannel set.
-    pub set: SetNo,
-    /// The number, 0000 to FFFF.
-    pub number: DevNo,
-}
 
 /// Every device of one of two configurations, or of both, in the order of keys. The time is that of one walk over
 /// both.
@@ -24,7 +16,7 @@ pub fn devices_of_both(
     alloc: Global,
     old: &Config,
     new: &Config,
-) -> Result<Vec<DeviceNumber>, AllocError>
+) -> Result<Vec<DeviceKey>, AllocError>
     ensures { IfOk result (λ devices. devices.items ≡ meaning.devices_of_both old.now.records new.now.records) }
 {
     let mut devices = Vec::new(alloc);
@@ -35,19 +27,6 @@ pub fn devices_of_both(
         }
     }
     Ok(devices)
-}
-
-/// The device of a key, if it is that of one.
-fn device_key(key: &Key) -> Option<DeviceNumber>
-    ensures { result ≡ meaning.device_key key.now }
-{
-    match key {
-        Key::Device(set, number) => {
-            let (set, number) = (*set, *number);
-            Some(DeviceNumber { set, number })
-        }
-        _ => None,
-    }
 }
 
 /// Every image of one of two configurations, or of both, in the order of keys. The time is that of one walk over both.

@@ -23,7 +23,7 @@ mod runs;
 mod side;
 mod sight;
 
-pub use both::{DeviceNumber, devices_of_both, images_of_both};
+pub use both::{devices_of_both, images_of_both};
 pub use effect::{Effect, effect_at, effect_between};
 pub use laws::{
     alike_are_told_alike, nothing_is_told_of_no_change, runs_are_the_devices, seen_is_the_view,

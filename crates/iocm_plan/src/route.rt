@@ -1,6 +1,7 @@
 ghost use Rattle.std.specs.Prelude.{◌≡◌};
 ghost use Rattle.std.specs.Option.{option_and_then, option_copied, option_eq, option_map};
 ghost use Rattle.iocm_record.specs.Meaning.{device_of, path_of, unit_of};
+ghost use Rattle.iocm_sight.specs.Connected.{as_path, as_unit, has_path};
 ghost use Rattle.iocm_plan.specs.Routes as meaning;
 ghost use Rattle.iocm_plan.specs.Sides.{side_of};
 
@@ -56,7 +57,7 @@ fn path_at<'a>(side: &Side<'a>, path: Chpid) -> Option<&'a PathFields>
 
 /// The path of a record, if it is that of one.
 fn path_fields(entry: &Record) -> Option<&PathFields>
-    ensures { option_map path_of (option_copied result) ≡ meaning.as_path entry.now }
+    ensures { option_map path_of (option_copied result) ≡ as_path entry.now }
 {
     match entry.body() {
         RecordBody::Path(fields) => Some(fields),
@@ -112,7 +113,7 @@ fn unit_at<'a>(side: &Side<'a>, unit: UnitNo, path: Chpid) -> Option<&'a UnitFie
 
 /// The control unit of a record, if it is that of one.
 fn unit_fields(entry: &Record) -> Option<&UnitFields>
-    ensures { option_map unit_of (option_copied result) ≡ meaning.as_unit entry.now }
+    ensures { option_map unit_of (option_copied result) ≡ as_unit entry.now }
 {
     match entry.body() {
         RecordBody::Unit(fields) => Some(fields),
@@ -122,7 +123,7 @@ fn unit_fields(entry: &Record) -> Option<&UnitFields>
 
 /// Whether a control unit has a path.
 fn has_path(css: Css, path: Chpid, unit: &UnitFields) -> bool
-    ensures { result ≡ meaning.has_path css path (unit_of unit.now) }
+    ensures { result ≡ has_path css path (unit_of unit.now) }
 {
     unit.paths
         .as_slice()

@@ -3,12 +3,13 @@ ghost use Rattle.std.specs.Option.{option_copied, option_eq, option_map};
 ghost use Rattle.iocm_record.specs.Meaning.{device_of};
 ghost use Rattle.iocm_plan.specs.Runs as meaning;
 
-use crate::both::{DeviceNumber, devices_of_both};
+use crate::both::devices_of_both;
 use crate::route::is_one_device;
 use iocm_config::Config;
 use iocm_derive::DeviceWalk;
 use iocm_difference::are_same_candidates;
 use iocm_record::DeviceFields;
+use iocm_sight::DeviceKey;
 use iocm_types::DevNo;
 use std::alloc::{AllocError, Global};
 
@@ -16,7 +17,7 @@ use std::alloc::{AllocError, Global};
 #[derive(Clone, Copy, Debug, PartialEq, Eq)]
 pub struct DeviceRun {
     /// The first of them.
-    pub first: DeviceNumber,
+    pub first: DeviceKey,
     /// How many there are.
     pub count: usize,
 }
@@ -41,8 +42,8 @@ fn put_runs(
     runs: &mut Vec<DeviceRun>,
     old: &Config,
     new: &Config,
-    first: DeviceNumber,
-    devices: &[DeviceNumber],
+    first: DeviceKey,
+    devices: &[DeviceKey],
 ) -> Result<(), AllocError>
     ensures { OnOk result (runs.new.items ≡ runs.old.items
         ++ meaning.runs_from old.now.records new.now.records (meaning.alone first) devices.now) }
@@ -66,9 +67,9 @@ fn put_runs(
 fn continues(
     old: &Config,
     new: &Config,
-    first: &DeviceNumber,
+    first: &DeviceKey,
     count: usize,
-    device: &DeviceNumber,
+    device: &DeviceKey,
 ) -> bool
     ensures { result ≡ meaning.continues old.now.records new.now.records
         (record { first = first.now; count = count }) device.now }
@@ -87,7 +88,7 @@ fn is_after(first: DevNo, count: usize, number: DevNo) -> bool
 }
 
 /// Whether a change does the same to two devices.
-fn are_alike(old: &Config, new: &Config, one: &DeviceNumber, other: &DeviceNumber) -> bool
+fn are_alike(old: &Config, new: &Config, one: &DeviceKey, other: &DeviceKey) -> bool
     ensures { result ≡ meaning.are_alike old.now.records new.now.records one.now other.now }
 {
     let (before, after) = (device_in(old, one), device_in(new, one));
@@ -98,7 +99,7 @@ fn are_alike(old: &Config, new: &Config, one: &DeviceNumber, other: &DeviceNumbe
 }
 
 /// A device of a configuration, if it is there.
-fn device_in<'a>(config: &'a Config, device: &DeviceNumber) -> Option<&'a DeviceFields>
+fn device_in<'a>(config: &'a Config, device: &DeviceKey) -> Option<&'a DeviceFields>
     ensures { option_map device_of (option_copied result)
         ≡ meaning.device_in config.entry.now.records device.entry.now }
 {

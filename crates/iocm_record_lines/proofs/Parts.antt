@@ -37,10 +37,11 @@ use Rattle.iocm_lines.proofs.Texts.{hex1_stays, hex8_stays, subchannel_stays}
 use Rattle.iocm_record_lines.specs.Undo.{place_value, state_value, undo_value}
 use Rattle.iocm_record_lines.specs.Lists.{list_of}
 use Rattle.iocm_record_lines.specs.Records.{operand_value, operands_value, names_value, image_value, path_value, use_text}
-use Rattle.iocm_record_lines.specs.Records.{link_value, unit_paths, unit_path_value, range_value, cuadd_value, unit_value}
+use Rattle.iocm_record_lines.specs.Records.{link_value, unit_path_value, range_value, cuadd_value, unit_value}
 use Rattle.iocm_record_lines.specs.Records.{candidates_value, number_value, device_value, online_value}
 use Rattle.iocm_record_lines.specs.Records.{record_value, record_line_value}
-use Rattle.iocm_record_lines.specs.declared.paths.UnitPath.{UnitPath}
+use Rattle.iocm_sight.specs.Linked.{linked_paths}
+use Rattle.iocm_words.specs.declared.paths.LinkedPath.{LinkedPath}
 
 -- a text between quotes that needs no escapes
 pub between : (s : List ℕ) → Stays s → 34 ∷ (s ++ 34 ∷ []) ≡ quoted s
@@ -143,7 +144,7 @@ pub link_member : (value : List ℕ)
     → codes "\"link\":" ++ (value ++ codes ",") ≡ (codes "\"link\":" ++ (value ++ codes ",")) ++ []
 link_member value = sym (append-nil (codes "\"link\":" ++ (value ++ codes ",")))
 
-pub unit_path_text : (p : UnitPath)
+pub unit_path_text : (p : LinkedPath)
     → codes "{\"css\":" ++ (decimal p.css ++ (codes "," ++ (with_comma_if_there (codes "link") (option_map link_value p.link)
     ++ (codes "\"path\":\"" ++ (hex2 p.path ++ codes "\"}")))))
     ≡ compact_text (unit_path_value p)
@@ -189,7 +190,7 @@ unit_together old c o p h g = simp append_assoc
 pub unit_put : (old : List ℕ) (r : UnitRecord)
     → ((((((old ++ (codes "{\"cuadd\":" ++ (compact_text (cuadd_value r.cuadd) ++ codes ",\"kind\":\"unit\",\"operands\":")))
     ++ compact_text (operands_value r.carried)) ++ codes ",\"paths\":")
-    ++ compact_text (list_of unit_path_value (unit_paths r)))
+    ++ compact_text (list_of unit_path_value (linked_paths r)))
     ++ (codes ",\"unit\":\"" ++ (hex4 r.number ++ codes "\",\"unitadd\":")))
     ++ compact_text (list_of range_value r.ranges)) ++ 125 ∷ []
     ≡ old ++ compact_text (unit_value r)
@@ -197,7 +198,7 @@ unfolding escape_byte
 unit_put old r =
     let c = compact_text (cuadd_value r.cuadd) in
     let o = compact_text (operands_value r.carried) in
-    let p = compact_text (list_of unit_path_value (unit_paths r)) in
+    let p = compact_text (list_of unit_path_value (linked_paths r)) in
     let g = compact_text (list_of range_value r.ranges) in
     unit_together old c o p (hex4 r.number) g
     ∙ ap (λ l. old ++ (codes "{\"cuadd\":" ++ (c ++ (codes ",\"kind\":\"unit\",\"operands\":" ++ (o ++ (codes ",\"paths\":" ++ (p

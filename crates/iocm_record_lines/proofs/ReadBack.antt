@@ -26,23 +26,24 @@ use Rattle.iocm_record_lines.specs.Again.{HasSmallPlaces}
 use Rattle.iocm_record_lines.specs.Undo.{place_value, state_value, undo_value}
 use Rattle.iocm_record_lines.specs.Lists.{items_of}
 use Rattle.iocm_record_lines.specs.Records.{operand_value, operands_value, names_value, link_value, unit_path_value}
-use Rattle.iocm_record_lines.specs.Records.{range_value, cuadd_value, candidates_value, number_value, unit_paths}
-use Rattle.iocm_record_lines.specs.Records.{with_their_links, record_value, record_line_value}
-use Rattle.iocm_record_lines.specs.declared.paths.UnitPath.{UnitPath}
+use Rattle.iocm_record_lines.specs.Records.{range_value, cuadd_value, candidates_value, number_value}
+use Rattle.iocm_record_lines.specs.Records.{record_value, record_line_value}
+use Rattle.iocm_sight.specs.Linked.{linked_paths, with_their_links}
+use Rattle.iocm_words.specs.declared.paths.LinkedPath.{LinkedPath}
 
 -- ---- lists
 
-all_plain : {A : Type 0} (value : A → Data) (P : A → Type 0) → ((x : A) → P x → IsPlain (value x)) → (xs : List A)
+pub all_plain : {A : Type 0} (value : A → Data) (P : A → Type 0) → ((x : A) → P x → IsPlain (value x)) → (xs : List A)
     → AllByRecursion P xs → ItemsArePlain (items_of value xs)
 all_plain value P each [] all = tt
 all_plain value P each (x ∷ xs) all = (each x all.0, all_plain value P each xs all.1)
 
-each_plain : {A : Type 0} (value : A → Data) → ((x : A) → IsPlain (value x)) → (xs : List A)
+pub each_plain : {A : Type 0} (value : A → Data) → ((x : A) → IsPlain (value x)) → (xs : List A)
     → ItemsArePlain (items_of value xs)
 each_plain value each [] = tt
 each_plain value each (x ∷ xs) = (each x, each_plain value each xs)
 
-all_low : {A : Type 0} (value : A → Data) (n : ℕ) → ((x : A) → depth (value x) ≤ n) → (xs : List A)
+pub all_low : {A : Type 0} (value : A → Data) (n : ℕ) → ((x : A) → depth (value x) ≤ n) → (xs : List A)
     → items_depth (items_of value xs) ≤ n
 all_low value n each [] = omega arith
 all_low value n each (x ∷ xs) = omega (arith, each x, all_low value n each xs)
@@ -68,10 +69,10 @@ operands_plain cs = each_plain operand_value operand_plain cs
 operands_low : (cs : List CarriedOperand) → depth (operands_value cs) ≤ 2
 operands_low cs = omega (arith, all_low operand_value 1 operand_low cs)
 
-names_plain : (names : List (List ℕ)) → IsPlain (names_value names)
+pub names_plain : (names : List (List ℕ)) → IsPlain (names_value names)
 names_plain names = each_plain string (λ _. tt) names
 
-names_low : (names : List (List ℕ)) → depth (names_value names) ≤ 1
+pub names_low : (names : List (List ℕ)) → depth (names_value names) ≤ 1
 names_low names = omega (arith, all_low string 0 (λ _. omega arith) names)
 
 -- ---- the paths of a control unit
@@ -88,7 +89,7 @@ link_flat (Some link.None) = refl
 link_flat (Some (link.Short n)) = refl
 link_flat (Some (link.Long n)) = refl
 
-path_plain : (p : UnitPath) → p.css < 2 ^ 64 → IsPlain (unit_path_value p)
+pub path_plain : (p : LinkedPath) → p.css < 2 ^ 64 → IsPlain (unit_path_value p)
 path_plain p small =
     let rest : List (List ℕ × Data) = (codes "path", string (hex2 p.path)) ∷ [] in (
       small,
@@ -96,7 +97,7 @@ path_plain p small =
       plain_optional (codes "link") (option_map link_value p.link) rest (link_plain p.link) refl (tt, refl, tt),
     )
 
-path_low : (p : UnitPath) → depth (unit_path_value p) ≤ 1
+pub path_low : (p : LinkedPath) → depth (unit_path_value p) ≤ 1
 path_low p =
     omega (
       arith,
@@ -104,7 +105,7 @@ path_low p =
           (link_flat p.link) (omega arith),
     )
 
-abbrev IsSmall : UnitPath → Type 0
+abbrev IsSmall : LinkedPath → Type 0
 IsSmall p = p.css < 2 ^ 64
 
 linked_small : (css : ℕ) (ps : List ℕ) (ls : List Link) → css < 2 ^ 64
@@ -113,12 +114,12 @@ linked_small css [] ls small = tt
 linked_small css (p ∷ ps) [] small = (small, linked_small css ps [] small)
 linked_small css (p ∷ ps) (l ∷ ls) small = (small, linked_small css ps ls small)
 
-both_small : (xs ys : List UnitPath) → AllByRecursion IsSmall xs → AllByRecursion IsSmall ys
+both_small : (xs ys : List LinkedPath) → AllByRecursion IsSmall xs → AllByRecursion IsSmall ys
     → AllByRecursion IsSmall (xs ++ ys)
 both_small [] ys here there = there
 both_small (x ∷ xs) ys here there = (here.0, both_small xs ys here.1 there)
 
-paths_small : (u : UnitRecord) → AllByRecursion IsSmall (unit_paths u)
+paths_small : (u : UnitRecord) → AllByRecursion IsSmall (linked_paths u)
 paths_small u =
     let at : (css : ℕ) → css < 6 → AllByRecursion IsSmall (with_their_links css (paths_in css u.paths) (links_in css u.links))
     = λ css less. linked_small css (paths_in css u.paths) (links_in css u.links) (omega arith) in
@@ -127,11 +128,11 @@ paths_small u =
 
 -- ---- records
 
-cuadd_plain : (cuadd : Option ℕ) → IsPlain (cuadd_value cuadd)
+pub cuadd_plain : (cuadd : Option ℕ) → IsPlain (cuadd_value cuadd)
 cuadd_plain None = tt
 cuadd_plain (Some n) = tt
 
-cuadd_low : (cuadd : Option ℕ) → depth (cuadd_value cuadd) ≤ 0
+pub cuadd_low : (cuadd : Option ℕ) → depth (cuadd_value cuadd) ≤ 0
 cuadd_low None = omega arith
 cuadd_low (Some n) = omega arith
 
@@ -143,7 +144,7 @@ candidates_low : (names : Option (List (List ℕ))) → depth (candidates_value 
 candidates_low None = omega arith
 candidates_low (Some names) = names_low names
 
-range_plain : (r : UnitRange) → r.count < 2 ^ 64 → IsPlain (range_value r)
+pub range_plain : (r : UnitRange) → r.count < 2 ^ 64 → IsPlain (range_value r)
 range_plain r small = (small, refl, (tt, refl, tt))
 
 record_plain : (r : Rec) → HasNumbers r → IsPlain (record_value r)
@@ -170,7 +171,7 @@ record_plain (unit r) h = (
       operands_plain r.carried,
       refl,
       (
-        all_plain unit_path_value IsSmall path_plain (unit_paths r) (paths_small r),
+        all_plain unit_path_value IsSmall path_plain (linked_paths r) (paths_small r),
         refl,
         (tt, refl, (all_plain range_value (λ r. r.count < 2 ^ 64) range_plain r.ranges h, refl, tt)),
       ),
@@ -207,7 +208,7 @@ record_low (unit r) =
       arith,
       cuadd_low r.cuadd,
       operands_low r.carried,
-      all_low unit_path_value 1 path_low (unit_paths r),
+      all_low unit_path_value 1 path_low (linked_paths r),
       all_low range_value 1 (λ _. omega arith) r.ranges,
     )
 record_low (device r) =

@@ -13,17 +13,15 @@ use Rattle.iocm_types.specs.declared.unit_range.UnitRange.{UnitRange}
 use Rattle.iocm_types.specs.Key.{key_text}
 use Rattle.iocm_types.specs.Print.{hex2, hex4}
 use Rattle.iocm_model.specs.Machine.Configuration.{Configuration}
-use Rattle.iocm_model.specs.Machine.Numbering.{subsystems}
-use Rattle.iocm_model.specs.Machine.PathList.{paths_in}
 use Rattle.iocm_model.specs.Machine.Record.{Rec, CarriedOperand, ImageRecord, LimitRecord, PathRecord, UnitRecord}
 use Rattle.iocm_model.specs.Machine.Record.{DeviceRecord, OnlineRecord, id, resource, image, limit, path, unit}
 use Rattle.iocm_model.specs.Machine.Record.{device, online}
-use Rattle.iocm_model.specs.Rules.EachRule.{links_in}
 use Rattle.serde_json.specs.Data.{Data, null, string}
 use Rattle.iocm_lines.specs.Lines.{line}
 use Rattle.iocm_lines.specs.Members.{object_of, if_there, count, image_name}
+use Rattle.iocm_sight.specs.Linked.{linked_paths}
+use Rattle.iocm_words.specs.declared.paths.LinkedPath.{LinkedPath}
 use Rattle.iocm_record_lines.specs.Lists.{list_of}
-use Rattle.iocm_record_lines.specs.declared.paths.UnitPath.{UnitPath}
 
 -- ---- what records have in common
 
@@ -79,26 +77,13 @@ path_value r =
     ∷ (codes "path", string (hex2 r.number))
     ∷ (codes "use", string (use_text r.kind)) ∷ [])
 
--- the paths of a channel subsystem, each with the link at its place among the links there, if it has one
-abbrev pub with_their_links : ℕ → List ℕ → List Link → List UnitPath
-with_their_links css [] links = []
-with_their_links css (p ∷ ps) [] = record { css = css; path = p; link = None } ∷ with_their_links css ps []
-with_their_links css (p ∷ ps) (l ∷ ls) = record { css = css; path = p; link = Some l } ∷ with_their_links css ps ls
-
-abbrev pub unit_paths_in : UnitRecord → ℕ → List UnitPath
-unit_paths_in u css = with_their_links css (paths_in css u.paths) (links_in css u.links)
-
--- the paths of a control unit with their links, by channel subsystem
-abbrev pub unit_paths : UnitRecord → List UnitPath
-unit_paths u = flat_map (unit_paths_in u) subsystems
-
 -- a link; null is one that is written as two asterisks
 abbrev pub link_value : Link → Data
 link_value link.None = null
 link_value (link.Short number) = string (hex2 number)
 link_value (link.Long number) = string (hex4 number)
 
-abbrev pub unit_path_value : UnitPath → Data
+abbrev pub unit_path_value : LinkedPath → Data
 unit_path_value p =
     object_of (
     (codes "css", count p.css)
@@ -119,7 +104,7 @@ unit_value r =
     (codes "cuadd", cuadd_value r.cuadd)
     ∷ (codes "kind", string (codes "unit"))
     ∷ (codes "operands", operands_value r.carried)
-    ∷ (codes "paths", list_of unit_path_value (unit_paths r))
+    ∷ (codes "paths", list_of unit_path_value (linked_paths r))
     ∷ (codes "unit", string (hex4 r.number))
     ∷ (codes "unitadd", list_of range_value r.ranges) ∷ [])
 

@@ -100,8 +100,8 @@ fn put_candidates<A: Allocator>(
     }
 }
 
-/// Puts a list of numbers of control units.
-fn put_units(alloc: Global, text: &mut Vec<u8>, units: &[UnitNo]) -> Result<(), AllocError>
+/// Puts a list of numbers of control units. Answers the lack of memory alone.
+pub fn put_units(alloc: Global, text: &mut Vec<u8>, units: &[UnitNo]) -> Result<(), AllocError>
     ensures { OnOk result (text.new.items ≡ text.old.items ++ compact_text (list_of number_value units.now)) }
 {
     text.push(b'[')?;
@@ -117,7 +117,7 @@ fn put_units(alloc: Global, text: &mut Vec<u8>, units: &[UnitNo]) -> Result<(), 
 
 /// The number of a control unit, as a text.
 #[derive(Clone, Copy)]
-struct UnitText(UnitNo);
+pub struct UnitText(pub UnitNo);
 
 impl fmt::Display for UnitText {
     ghost use Rattle.std.specs.Prelude.{Some};

@@ -7,8 +7,8 @@ use crate::quoting::put_quoted;
 use iocm_types::Name;
 use std::alloc::AllocError;
 
-/// Puts a list of names of images.
-pub(crate) fn put_names(text: &mut Vec<u8>, names: &[Name]) -> Result<(), AllocError>
+/// Puts a list of names of images. Answers the lack of memory alone.
+pub fn put_names(text: &mut Vec<u8>, names: &[Name]) -> Result<(), AllocError>
     ensures { OnOk result (text.new.items ≡ text.old.items ++ compact_text (names_value names.now)) }
 {
     text.push(b'[')?;

@@ -4,8 +4,8 @@ ghost use Rattle.serde_json.specs.Written.{comma_if};
 use std::alloc::{AllocError, Global};
 use std::fmt;
 
-/// Puts what is shown behind a text.
-pub(crate) fn put<D: fmt::Display + Drop>(
+/// Puts what is shown behind a text. Answers the lack of memory alone.
+pub fn put<D: fmt::Display + Drop>(
     alloc: Global,
     shown: D,
     text: &mut Vec<u8>,
@@ -19,7 +19,7 @@ pub(crate) fn put<D: fmt::Display + Drop>(
 
 /// Two hexadecimal digits of a byte.
 #[derive(Clone, Copy)]
-pub(crate) struct Hex2(pub u8);
+pub struct Hex2(pub u8);
 
 impl fmt::Display for Hex2 {
     ghost use Rattle.std.specs.Prelude.{Some};
@@ -33,8 +33,8 @@ impl fmt::Display for Hex2 {
     }
 }
 
-/// Puts a comma between an item and one before it.
-pub(crate) fn put_comma(text: &mut Vec<u8>, later: bool) -> Result<(), AllocError>
+/// Puts a comma between an item and one before it. Answers the lack of memory alone.
+pub fn put_comma(text: &mut Vec<u8>, later: bool) -> Result<(), AllocError>
     ensures { OnOk result (text.new.items ≡ text.old.items ++ comma_if later) }
 {
     if later {

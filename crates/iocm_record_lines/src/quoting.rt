@@ -4,8 +4,8 @@ ghost use Rattle.json.specs.Print as print;
 
 use std::alloc::AllocError;
 
-/// Puts bytes between quotes, with their escapes.
-pub(crate) fn put_quoted(text: &mut Vec<u8>, value: &[u8]) -> Result<(), AllocError>
+/// Puts bytes between quotes, with their escapes. Answers the lack of memory alone.
+pub fn put_quoted(text: &mut Vec<u8>, value: &[u8]) -> Result<(), AllocError>
     ensures { OnOk result (text.new.items ≡ text.old.items ++ print.quoted value.now) }
 {
     text.push(b'"')?;

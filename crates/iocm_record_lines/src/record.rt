@@ -170,7 +170,7 @@ impl fmt::Display for PathEnd {
 }
 
 /// How images use a channel path.
-fn use_text(kind: PathKind) -> &'static str
+pub fn use_text(kind: PathKind) -> &'static str
     ensures { result.now ≡ meaning.use_text kind }
 {
     match kind {

@@ -69,8 +69,8 @@ impl fmt::Display for UntilRanges {
     }
 }
 
-/// Puts a list of ranges of unit addresses.
-fn put_ranges(alloc: Global, text: &mut Vec<u8>, ranges: &[UnitRange]) -> Result<(), AllocError>
+/// Puts a list of ranges of unit addresses. Answers the lack of memory alone.
+pub fn put_ranges(alloc: Global, text: &mut Vec<u8>, ranges: &[UnitRange]) -> Result<(), AllocError>
     ensures { OnOk result (text.new.items ≡ text.old.items ++ compact_text (list_of range_value ranges.now)) }
 {
     text.push(b'[')?;

@@ -9,8 +9,8 @@ use Rattle.iocm_types.specs.declared.sub_id.SubId.{SubId}
 use Rattle.iocm_types.specs.Print.{hex1, hex2, hex4}
 use Rattle.iocm_model.specs.Change.Edit.{Edit}
 use Rattle.iocm_model.specs.Operation.Orders.{bits_of}
-use Rattle.iocm_console.specs.Digits.{enabled_text, hex8}
-use Rattle.iocm_lines.specs.Members.{subchannel_name}
+use Rattle.iocm_console.specs.Digits.{enabled_text}
+use Rattle.iocm_lines.specs.Members.{hex8, subchannel_name}
 
 -- a device by its set and its number
 unfoldable pub device_text : Place → List ℕ

@@ -164,10 +164,11 @@ groups_fit found (m ∷ members) inside fit =
 
 -- ---- paths
 
-link_inside : (link : Link) → Inside (paths.link_part link)
-link_inside Unlinked = refl
-link_inside (Short n) = inside_behind 47 (hex2 n) refl (hex2_word n).inside
-link_inside (Long n) = inside_behind 47 (hex4 n) refl (hex4_word n).inside
+link_inside : (link : Option Link) → Inside (paths.link_part link)
+link_inside None = refl
+link_inside (Some Unlinked) = refl
+link_inside (Some (Short n)) = inside_behind 47 (hex2 n) refl (hex2_word n).inside
+link_inside (Some (Long n)) = inside_behind 47 (hex4 n) refl (hex4_word n).inside
 
 linked_is : (p : LinkedPath) → Word (paths.linked_word p)
 linked_is p = word_before (hex2 p.path) (paths.link_part p.link) (hex2_word p.path) (link_inside p.link)

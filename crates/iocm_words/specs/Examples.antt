@@ -1,5 +1,5 @@
 -- Words and tables as they are written by hand.
-use Rattle.std.specs.Prelude.{◌≡◌, ℕ, None, Some, List, [], ◌∷◌, ◌++◌, map, codes}
+use Rattle.std.specs.Prelude.{◌≡◌, ℕ, Option, None, Some, List, [], ◌∷◌, ◌++◌, map, codes}
 use Rattle.std.specs.List.{flat_map}
 use Rattle.iocm_types.specs.declared.link.Link.{Link}
 use Rattle.iocm_types.specs.declared.link.Link.TheVariants.{Long}
@@ -65,7 +65,7 @@ pub record TablesAreLaidOut : Type 0 where
 
 -- ---- words
 
-abbrev linked : ℕ → ℕ → Link → LinkedPath
+abbrev linked : ℕ → ℕ → Option Link → LinkedPath
 linked css path link = record { css = css; path = path; link = link }
 
 abbrev image : ℕ → ℕ → List ℕ → ImagePaths
@@ -91,9 +91,9 @@ pub record WordsAreWritten : Type 0 where
 -- follow each other
 pub record PathsAreWritten : Type 0 where
   pub none : paths_word [] ≡ codes "-"
-  pub links : paths_word (linked 0 0x40 (Long 0x6512) ∷ linked 0 0x41 (Long 0x6612) ∷ linked 1 0x40 (Long 0x6512)
-      ∷ linked 1 0x41 (Long 0x6612) ∷ linked 2 0x50 Unlinked ∷ []) ≡ codes "0,1:40/6512,41/6612;2:50"
-  pub apart : paths_word (linked 0 0x40 Unlinked ∷ linked 1 0x41 Unlinked ∷ linked 2 0x40 Unlinked ∷ [])
+  pub links : paths_word (linked 0 0x40 (Some (Long 0x6512)) ∷ linked 0 0x41 (Some (Long 0x6612)) ∷ linked 1 0x40 (Some (Long 0x6512))
+      ∷ linked 1 0x41 (Some (Long 0x6612)) ∷ linked 2 0x50 (Some Unlinked) ∷ []) ≡ codes "0,1:40/6512,41/6612;2:50"
+  pub apart : paths_word (linked 0 0x40 None ∷ linked 1 0x41 None ∷ linked 2 0x40 None ∷ [])
       ≡ codes "0,2:40;1:41"
 
 -- so do images with as many paths

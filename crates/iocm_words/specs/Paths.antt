@@ -1,9 +1,9 @@
 -- Paths by channel subsystem: 0,1:40/6512,41/6612;2:50.
 -- Bytes by their codes: 44 is a comma, 47 a slash, 58 a colon, 59 a semicolon.
-use Rattle.std.specs.Prelude.{ℕ, ◌==◌, if◌then◌else◌, List, [], ◌∷◌, ◌++◌, map, filter, length}
+use Rattle.std.specs.Prelude.{ℕ, ◌==◌, if◌then◌else◌, Option, None, Some, List, [], ◌∷◌, ◌++◌, map, filter, length}
 use Rattle.std.specs.List.{flat_map, join_with_byte}
 use Rattle.iocm_types.specs.declared.link.Link.{Link}
-use Rattle.iocm_types.specs.declared.link.Link.TheVariants.{None, Short, Long}
+use Rattle.iocm_types.specs.declared.link.Link.TheVariants as link
 use Rattle.iocm_types.specs.Print.{hex1, hex2, hex4}
 use Rattle.iocm_words.specs.declared.groups.Member.{Member}
 use Rattle.iocm_words.specs.declared.paths.LinkedPath.{LinkedPath}
@@ -11,10 +11,11 @@ use Rattle.iocm_words.specs.Groups as groups
 use Rattle.iocm_words.specs.Words.{joined_word}
 
 -- a link behind a slash, if there is one
-abbrev pub link_part : Link → List ℕ
+abbrev pub link_part : Option Link → List ℕ
 link_part None = []
-link_part (Short link) = 47 ∷ hex2 link
-link_part (Long link) = 47 ∷ hex4 link
+link_part (Some link.None) = []
+link_part (Some (link.Short number)) = 47 ∷ hex2 number
+link_part (Some (link.Long number)) = 47 ∷ hex4 number
 
 abbrev pub linked_word : LinkedPath → List ℕ
 linked_word p = hex2 p.path ++ link_part p.link

@@ -15,8 +15,8 @@ pub struct LinkedPath {
     pub css: Css,
     /// The path's number there.
     pub path: Chpid,
-    /// Its link, which isn't told if there is none.
-    pub link: Link,
+    /// Its link, if it has one. It isn't told if it has none, or is written as two asterisks.
+    pub link: Option<Link>,
 }
 
 fn linked_text(alloc: Global, linked: LinkedPath) -> Result<Text, AllocError>
@@ -24,9 +24,9 @@ fn linked_text(alloc: Global, linked: LinkedPath) -> Result<Text, AllocError>
 {
     let path = linked.path;
     let text = match linked.link {
-        Link::None => format!(in alloc; "{path}")?,
-        Link::Short(link) => format!(in alloc; "{path}/{link:02X}")?,
-        Link::Long(link) => format!(in alloc; "{path}/{link:04X}")?,
+        None | Some(Link::None) => format!(in alloc; "{path}")?,
+        Some(Link::Short(link)) => format!(in alloc; "{path}/{link:02X}")?,
+        Some(Link::Long(link)) => format!(in alloc; "{path}/{link:04X}")?,
     };
     Ok(Text::from_vec(text.into_bytes()))
 }

@@ -2,10 +2,10 @@ use Rattle.std.proofs.Common.{codes, filter, ap, ◌∙◌}
 use Rattle.std.specs.List.{filter_map}
 use Rattle.iocm_model.specs.Machine.Configuration.{as_image, lookup_of, records_of}
 use Rattle.iocm_model.specs.Machine.Record.{DeviceRecord}
-use Rattle.iocm_list.specs.Seen.{paths_by, seen_from}
+use Rattle.iocm_sight.specs.Seen.{paths_by, seen_from}
 use Rattle.iocm_list.specs.Texts.{carried_text}
-use Rattle.iocm_list.specs.WantedRows.{wants_image}
-use Rattle.iocm_list.proofs.Sights.{seen_by_sights}
+use Rattle.iocm_sight.specs.WantedRows.{wants_image}
+use Rattle.iocm_sight.proofs.Sights.{seen_by_sights}
 use Rattle.iocm_list.proofs.device_list.device_row.Goals as goal
 
 pub returns-clause-row : goal.returns-clause-row

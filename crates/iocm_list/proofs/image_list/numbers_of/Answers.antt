@@ -1,8 +1,8 @@
 use Rattle.std.proofs.Common.{◌≡◌, ◌<◌, [], ℕ, List, length, get_or, map, ap, sym, ◌∙◌, arith}
 use Rattle.std.proofs.lemmas.List.{get_or-map, length-map}
 use Rattle.iocm_words.specs.declared.ranges.SetNumbers.{SetNumbers}
-use Rattle.iocm_list.specs.ImageRows.{numbers_in}
-use Rattle.iocm_list.proofs.OneMore.{of_subsystem}
+use Rattle.iocm_sight.specs.Counts.{numbers_in}
+use Rattle.iocm_sight.proofs.OneMore.{of_subsystem}
 use Rattle.iocm_list.proofs.image_list.numbers_of.Goals as goal
 
 pub index-own-requires : goal.index-own-requires

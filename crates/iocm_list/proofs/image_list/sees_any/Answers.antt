@@ -2,8 +2,8 @@ use Rattle.std.proofs.Common.{◌≡◌, sym, ◌∙◌}
 use Rattle.iocm_model.specs.Machine.Configuration.{lookup_of}
 use Rattle.iocm_model.specs.Machine.Sight.{sees}
 use Rattle.iocm_deck_writer.specs.Device.{Run}
-use Rattle.iocm_list.proofs.SightTests.{is_seen}
-use Rattle.iocm_list.proofs.RunSums.{none_so_far, one_found}
+use Rattle.iocm_sight.proofs.SightTests.{is_seen}
+use Rattle.iocm_sight.proofs.RunSums.{none_so_far, one_found}
 use Rattle.iocm_list.proofs.image_list.sees_any.Goals as goal
 
 pub returns-then-is_some-clause-seen : goal.returns-then-is_some-clause-seen

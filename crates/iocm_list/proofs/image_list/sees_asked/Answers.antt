@@ -4,9 +4,9 @@ use Rattle.iocm_model.specs.Machine.Configuration.{devices_of, lookup_of}
 use Rattle.iocm_model.specs.Machine.Sight.{sees}
 use Rattle.iocm_filter.specs.Wanted.{asks}
 use Rattle.iocm_deck_writer.specs.Device.{Run}
-use Rattle.iocm_list.specs.WantedRows.{wants_number}
-use Rattle.iocm_list.proofs.RunSums.{any}
-use Rattle.iocm_list.proofs.SightTests.{sees_of_sight}
+use Rattle.iocm_sight.specs.WantedRows.{wants_number}
+use Rattle.iocm_sight.proofs.RunSums.{any}
+use Rattle.iocm_sight.proofs.SightTests.{sees_of_sight}
 use Rattle.iocm_list.proofs.image_list.sees_asked.Goals as goal
 
 asks_some : {X : Type 0} (xs : List X) → false ≡ (length xs == 0) → asks xs ≡ true

@@ -4,9 +4,10 @@ use Rattle.std.proofs.lemmas.Map.Iter.{rest_more}
 use Rattle.iocm_model.specs.Machine.Record.{PathRecord}
 use Rattle.iocm_model.specs.Machine.Configuration.{records_of}
 use Rattle.iocm_list.specs.declared.path_row.PathRow.{PathRow}
-use Rattle.iocm_list.specs.Connected.{as_path}
+use Rattle.iocm_sight.specs.Connected.{as_path}
 use Rattle.iocm_list.specs.PathRows.{is_path_wanted, path_row, path_rows, rows_among}
-use Rattle.iocm_list.proofs.Keeping.{next_row, paths_of_kind}
+use Rattle.iocm_sight.proofs.Keeping.{paths_of_kind}
+use Rattle.iocm_list.proofs.Rows.{next_row}
 use Rattle.iocm_list.proofs.path_row.path_rows.Goals as goal
 
 pub loop-entry-init : goal.loop-entry-init

@@ -4,9 +4,9 @@ use Rattle.std.proofs.lemmas.Result.{IfOk-weaker}
 use Rattle.iocm_model.specs.Machine.Record.{Rec}
 use Rattle.iocm_record.specs.Meaning.{path_of, record_of}
 use Rattle.iocm_list.specs.declared.path_row.PathRow.{PathRow}
-use Rattle.iocm_list.specs.Connected.{as_path}
+use Rattle.iocm_sight.specs.Connected.{as_path}
 use Rattle.iocm_list.specs.PathRows.{is_path_wanted, path_row, rows_among, rows_of}
-use Rattle.iocm_list.proofs.Keeping.{one_row}
+use Rattle.iocm_list.proofs.Rows.{one_row}
 use Rattle.iocm_list.proofs.path_row.put_record.Goals as goal
 
 pub returns-in-Path : goal.returns-in-Path

@@ -4,9 +4,9 @@ use Rattle.std.proofs.lemmas.Result.{IfOk-weaker}
 use Rattle.iocm_model.specs.Machine.Record.{Rec}
 use Rattle.iocm_record.specs.Meaning.{unit_of, record_of}
 use Rattle.iocm_list.specs.declared.unit_row.UnitRow.{UnitRow}
-use Rattle.iocm_list.specs.Connected.{as_unit}
+use Rattle.iocm_sight.specs.Connected.{as_unit}
 use Rattle.iocm_list.specs.UnitRows.{is_unit_wanted, unit_row, rows_among, rows_of}
-use Rattle.iocm_list.proofs.Keeping.{one_row}
+use Rattle.iocm_list.proofs.Rows.{one_row}
 use Rattle.iocm_list.proofs.unit_row.put_record.Goals as goal
 
 pub returns-in-Unit : goal.returns-in-Unit

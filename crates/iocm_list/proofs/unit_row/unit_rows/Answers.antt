@@ -4,9 +4,10 @@ use Rattle.std.proofs.lemmas.Map.Iter.{rest_more}
 use Rattle.iocm_model.specs.Machine.Record.{UnitRecord}
 use Rattle.iocm_model.specs.Machine.Configuration.{records_of}
 use Rattle.iocm_list.specs.declared.unit_row.UnitRow.{UnitRow}
-use Rattle.iocm_list.specs.Connected.{as_unit}
+use Rattle.iocm_sight.specs.Connected.{as_unit}
 use Rattle.iocm_list.specs.UnitRows.{is_unit_wanted, unit_row, unit_rows, rows_among}
-use Rattle.iocm_list.proofs.Keeping.{next_row, units_of_kind}
+use Rattle.iocm_sight.proofs.Keeping.{units_of_kind}
+use Rattle.iocm_list.proofs.Rows.{next_row}
 use Rattle.iocm_list.proofs.unit_row.unit_rows.Goals as goal
 
 pub loop-entry-init : goal.loop-entry-init

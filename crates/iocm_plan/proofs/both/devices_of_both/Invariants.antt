@@ -2,12 +2,13 @@
 use Rattle.std.proofs.Common.{◌≡◌, ◌++◌, length}
 use Rattle.std.specs.List.{filter_map}
 use Rattle.iocm_difference.specs.Walks.{Pair}
-use Rattle.iocm_plan.specs.Runs as meaning
+use Rattle.iocm_sight.specs.Connected.{device_key}
+use Rattle.iocm_plan.specs.Runs.{devices_of_both}
 use Rattle.iocm_plan.proofs.both.devices_of_both.Given as goal
 
 abbrev pub invariant-loop-met : goal.invariant-loop-met
-invariant-loop-met l = l.devices.items ++ filter_map (λ (p : Pair). meaning.device_key p.0) l.merge
-    ≡ meaning.devices_of_both l.old.records l.new.records
+invariant-loop-met l = l.devices.items ++ filter_map (λ (p : Pair). device_key p.0) l.merge
+    ≡ devices_of_both l.old.records l.new.records
 
 abbrev pub decreases-loop-met : goal.decreases-loop-met
 decreases-loop-met l = length l.merge

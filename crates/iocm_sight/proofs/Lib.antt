@@ -1,0 +1,12 @@
+pub mod Alike
+pub mod Connecting
+pub mod Keeping
+pub mod Members
+pub mod Naming
+pub mod OneMore
+pub mod PathNumbers
+pub mod RunSums
+pub mod SeenViews
+pub mod SightTests
+pub mod Sights
+pub mod Worked
