@@ -28,7 +28,7 @@ _iocm() {
         check) options+=" --quiet --json --all" ;;
         show) options+=" --quiet --json $filters" ;;
         list)
-            options+=" --quiet $filters" most=2
+            options+=" --quiet --json $filters" most=2
             ((files == 0)) && [[ $word != -* ]] && options="images paths units devices" most=0
             ;;
         write) options+=" --quiet --json" ;;

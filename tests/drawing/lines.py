@@ -1,9 +1,10 @@
 """Lines of JSON, turned back into the text that is printed without `--json`."""
 import json
 
+from .listed_lines import table_of
 from .shapes import HEADING
 
-COMMANDS = ("check", "show", "apply")
+COMMANDS = ("check", "show", "list", "apply")
 NOT_IN_LINES = ("--deck", "--undo")
 HOW_OFTEN = 0.05
 MASKS = (("pim", "installed"), ("pam", "available"))
@@ -26,7 +27,7 @@ def fault_of_lines(words, printed, text):
         if line.decode("latin-1") != compact:
             return f"not compact, or not in order: {line[:200]!r}"
     wrong = next((it for value in values for it in faults_of_masks(value)), "")
-    lines = text_of(words, values)
+    lines = text_of(words, values, text)
     if is_list_of_faults(values):
         lines = lines[:1]
     return wrong or ("" if lines == text.decode("latin-1").splitlines() else f"{lines[:5]}")
@@ -37,8 +38,10 @@ def is_list_of_faults(values):
     return bool(values) and all("line" in value and value["type"] == "refused" for value in values)
 
 
-def text_of(words, values):
-    """The text of lines."""
+def text_of(words, values, text):
+    """The text of lines. Whether a list of images is all that there are, the text of the same command says."""
+    if words[0] == "list" and not any(value["type"] == "refused" for value in values):
+        return table_of(words[1], values, b":all" in text).splitlines()
     lines, heading = [], [HEADING]
     if words[0] == "show" and not any(value["type"] == "refused" for value in values):
         lines, heading = [HEADING], []
@@ -87,7 +90,7 @@ def altered(value):
     before, after = value["before"], value["after"]
     if before == after:
         return [f"= {row(value, before) if before else place(value)}"]
-    return [f"- {row(value, before)}"] * bool(before) + [f"+ {row(value, after)}"] * bool(after)
+    return [f"{sign} {row(value, seen)}" for sign, seen in (("-", before), ("+", after)) if seen]
 
 
 TEXTS = {it.__name__: it for it in (accepted, refused, count, subchannel, altered)}
@@ -96,7 +99,7 @@ TEXTS = {it.__name__: it for it in (accepted, refused, count, subchannel, altere
 def faults_of_masks(value):
     """What is wrong with the lists of paths beside the masks of what is seen."""
     for seen in (value, value.get("before"), value.get("after")):
-        if isinstance(seen, dict) and "paths" in seen:
+        if isinstance(seen, dict) and "pim" in seen:
             for mask, name in MASKS:
                 bits = f"{int(seen[mask], 16):08b}"
                 if seen[name] != [path for path, bit in zip(seen["paths"], bits) if bit == "1"]:

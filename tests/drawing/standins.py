@@ -136,6 +136,7 @@ STAND_INS = (
     StandIn("status", kinds.faulty_deck, refused("check"), with_status(0)),
     StandIn("lines", kinds.legal_deck, of("check", "--json"), text(rb'"type"', b' "type"')),
     StandIn("lines", kinds.legal_deck, of("show", "--json"), text(rb'"pim":"', b'"pim":"1')),
+    StandIn("lines", kinds.legal_deck, of("list", "--json"), text(rb'"online":', b'"online":1')),
     StandIn("status", kinds.legal_deck, of("check"), with_status(1)),
     StandIn("place", kinds.breaching_deck, refused("check"), said_with(rb"deck, line ", rb"deck, line 1")),
     StandIn("place", kinds.wrong_change, refused("apply"), said_with(rb"(change|input), ", rb"deck, ")),

@@ -36,6 +36,7 @@ def short_words():
     yield ["diff", "base.deck", "grown.deck", "--old"]
     for kind in ("images", "paths", "units", "devices"):
         yield ["list", kind, "base.deck"]
+        yield ["list", kind, "base.deck", "--json"]
     yield ["vary", "base.deck", "offline", "50", "51"]
     yield ["explain", "V14"]
     yield ["explain"]

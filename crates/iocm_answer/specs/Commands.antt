@@ -46,7 +46,7 @@ abbrev pub IsMeant : Manner → Command → List ℕ → List (List ℕ) → Sho
 IsMeant m (command.Check name breaches) deck others shown = shown ≡ checked_by breaches m deck
 IsMeant m (command.Show name filters) deck others shown = shown ≡ showed m filters deck
 IsMeant m (command.List listed name filters) deck others shown =
-    shown ≡ shown_or_refused m (listed_of listed filters) (opened_deck deck)
+    shown ≡ shown_or_refused m (listed_of m listed filters) (opened_deck deck)
 IsMeant m (command.Write name) deck others shown = shown ≡ written m deck
 IsMeant m (command.Diff old new before) deck others shown = shown ≡ differed m before deck (first_text others)
 IsMeant m (command.Vary name to filters) deck others shown =

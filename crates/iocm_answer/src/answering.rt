@@ -96,7 +96,7 @@ pub fn finish<'f, T: Threads + Wait + Sync>(
                 ..
             },
             Begun::Deck(opened),
-        ) => { list(alloc, *listed, filters, &opened) }
+        ) => { list(alloc, form, *listed, filters, &opened) }
         (Command::Write { .. }, Begun::Deck(opened)) => write(alloc, form, &opened),
         (Command::Diff { before, .. }, Begun::Deck(old)) => {
             diff(alloc, form, *before, &old, first_text(others))

@@ -63,7 +63,7 @@ abbrev pub show_row : Text × List (Text × Form)
 show_row = (codes "show", quiet ∷ json ∷ deck ∷ filters)
 
 abbrev pub list_row : Text × List (Text × Form)
-list_row = (codes "list", quiet ∷ (codes "KIND", Word) ∷ deck ∷ filters)
+list_row = (codes "list", quiet ∷ json ∷ (codes "KIND", Word) ∷ deck ∷ filters)
 
 abbrev pub write_row : Text × List (Text × Form)
 write_row = (codes "write", quiet ∷ json ∷ deck ∷ [])

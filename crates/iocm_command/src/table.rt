@@ -189,6 +189,7 @@ const LIST: Row<'static> = Row {
     about: "Reads a configuration deck and lists its images, channel paths, control units or devices",
     arguments: &[
         QUIET,
+        JSON,
         KIND,
         DECK,
         WITH_IMAGE,

@@ -1,0 +1,10 @@
+use Rattle.std.proofs.Common.{◌∷◌, [], append_assoc}
+use Rattle.serde_json.specs.Written.{compact_text}
+use Rattle.iocm_list_lines.specs.Devices.{device_line, device_value}
+use Rattle.iocm_list_lines.proofs.devices.put_line.Goals as goal
+
+pub returns : goal.returns
+unfolding device_line
+returns c =
+    rw (c.in_ok-push.ensures.items, c.in_ok-put_row.ensures)
+    (append_assoc c.args.text.now.items (compact_text (device_value c.args.row.now)) (10 ∷ []))

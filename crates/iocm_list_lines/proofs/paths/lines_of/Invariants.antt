@@ -1,0 +1,8 @@
+-- The lines of the rows so far.
+use Rattle.std.proofs.Common.{◌≡◌, take}
+use Rattle.std.specs.List.{flat_map}
+use Rattle.iocm_list_lines.specs.Paths.{path_line}
+use Rattle.iocm_list_lines.proofs.paths.lines_of.Given as goal
+
+abbrev pub invariant-loop-row : goal.invariant-loop-row
+invariant-loop-row l = l.text.items ≡ flat_map path_line (take l.row-index l.rows)
