@@ -7,7 +7,7 @@ use iocm_types::Key;
 use std::fmt;
 
 /// How much a configuration has. The word is own.
-#[derive(Clone, Copy, Debug, PartialEq, Eq)]
+#[derive(Clone, Copy, PartialEq, Eq)]
 pub struct Census {
     /// Records of all kinds, online ones too.
     pub records: usize,

@@ -22,7 +22,7 @@ const LARGEST_HEAP: usize = 16_777_216;
 
 /// Why a change tree isn't read: the first fault of its text, or that memory is missing; and the
 /// size of the heap that was tried last, 0 before the first.
-#[derive(Clone, Copy, Debug, PartialEq, Eq)]
+#[derive(Clone, Copy, PartialEq, Eq)]
 pub struct Unread {
     fault: Fault,
     heap: usize,

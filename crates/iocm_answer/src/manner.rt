@@ -1,7 +1,7 @@
 use iocm_lines::{Form, Input};
 
 /// In which form an answer is printed, and of which text a refusal tells.
-#[derive(Clone, Copy, Debug, PartialEq, Eq)]
+#[derive(Clone, Copy, PartialEq, Eq)]
 pub struct Manner {
     /// The form: text, or lines of JSON.
     pub form: Form,

@@ -56,7 +56,7 @@ pub fn carry_out<R: Read, W: Write + Drop, T: Threads + Wait + Sync>(
 }
 
 /// Why the texts of a command give no answer.
-#[derive(Clone, Copy, Debug, PartialEq, Eq)]
+#[derive(Clone, Copy, PartialEq, Eq)]
 enum Unanswered {
     /// A text can't be read to its end.
     Unread,

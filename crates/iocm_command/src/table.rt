@@ -112,7 +112,7 @@ impl<'a> Command<'a> {
 }
 
 /// Which breaches of the rules are printed.
-#[derive(Clone, Copy, Debug, PartialEq, Eq)]
+#[derive(Clone, Copy, PartialEq, Eq)]
 pub enum Breaches {
     /// The first one alone.
     First,
@@ -121,7 +121,7 @@ pub enum Breaches {
 }
 
 /// What is listed.
-#[derive(Clone, Copy, Debug, PartialEq, Eq)]
+#[derive(Clone, Copy, PartialEq, Eq)]
 pub enum Listed {
     /// Images.
     Images,
@@ -134,7 +134,7 @@ pub enum Listed {
 }
 
 /// Whether what was there before each change is printed, as comments.
-#[derive(Clone, Copy, Debug, PartialEq, Eq)]
+#[derive(Clone, Copy, PartialEq, Eq)]
 pub enum Before {
     /// It isn't.
     LeftOut,
@@ -143,7 +143,7 @@ pub enum Before {
 }
 
 /// What becomes of a path for an image.
-#[derive(Clone, Copy, Debug, PartialEq, Eq)]
+#[derive(Clone, Copy, PartialEq, Eq)]
 pub enum Varied {
     /// It is taken offline.
     Offline,

@@ -127,7 +127,7 @@ fn write_cells<A: Allocator, W: Write + Drop>(
 }
 
 /// Writes the row of a subchannel, if something is seen there and it passes.
-#[inline]
+#[inline(always)]
 fn write_seen<W: Write + Drop>(
     output: &mut Output<W>,
     form: Form,

@@ -8,7 +8,7 @@ use std::alloc::{AllocError, AllocFailed};
 use std::fmt;
 
 /// What a refusal is about.
-#[derive(Clone, Copy, Debug, PartialEq, Eq)]
+#[derive(Clone, Copy, PartialEq, Eq)]
 pub enum About {
     /// The line of a text, counted from 1.
     Line(usize),
@@ -24,7 +24,7 @@ pub enum About {
 
 /// Why a command gives no answer: a text has a fault, a configuration breaks a rule, a change isn't
 /// made, or memory is missing.
-#[derive(Clone, Copy, Debug, PartialEq, Eq)]
+#[derive(Clone, Copy, PartialEq, Eq)]
 pub struct Refusal {
     /// Its number.
     pub number: Rule,

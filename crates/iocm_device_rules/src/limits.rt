@@ -81,7 +81,7 @@ fn is_any_past_limit<A: Allocator, N: Allocator>(config: &Config<A>, numbers: &N
 }
 
 /// The limit of a channel subsystem and set.
-#[derive(Clone, Copy, Debug, PartialEq, Eq)]
+#[derive(Clone, Copy, PartialEq, Eq)]
 pub(crate) struct SetLimit {
     css: Css,
     set: SetNo,

@@ -6,7 +6,7 @@ use iocm_types::Rule;
 use std::fmt;
 
 /// The entry of a refusal: what the program found and did, and what its user does.
-#[derive(Clone, Copy, Debug)]
+#[derive(Clone, Copy)]
 pub struct Entry {
     /// The letter and the number of the refusal, as `S10`.
     pub number: &'static str,
@@ -33,7 +33,7 @@ impl fmt::Display for Entry {
 }
 
 /// The heading of an entry, as `E2: TITLE`: the refusal's number, and what is wrong in a few words.
-#[derive(Clone, Copy, Debug)]
+#[derive(Clone, Copy)]
 pub struct Heading(pub Entry);
 
 impl fmt::Display for Heading {

@@ -7,14 +7,14 @@ use iocm_types::Rule;
 use std::alloc::{AllocError, Global};
 
 /// The refusals that are explained: all that it takes to print their entries.
-#[derive(Debug, Drop)]
+#[derive(Drop)]
 pub struct Explained {
     /// Those of the words, in their order; none, if all are to be listed.
     pub rules: Vec<Rule>,
 }
 
 /// Why words aren't explained.
-#[derive(Clone, Copy, Debug)]
+#[derive(Clone, Copy)]
 pub enum Unexplained<'a> {
     /// M1: memory ran out.
     Memory,

@@ -1,7 +1,7 @@
 use iocm_types::{Chpid, Css, DevNo, Image, Name, SetNo};
 
 /// An image that is asked for.
-#[derive(Clone, Copy, Debug, PartialEq, Eq)]
+#[derive(Clone, Copy, PartialEq, Eq)]
 pub enum ImageWord {
     /// The image at this place.
     Place(Image),
@@ -10,7 +10,7 @@ pub enum ImageWord {
 }
 
 /// A path that is asked for.
-#[derive(Clone, Copy, Debug, PartialEq, Eq)]
+#[derive(Clone, Copy, PartialEq, Eq)]
 pub struct PathWord {
     /// The channel subsystem, or none: then the path of this number in each.
     pub css: Option<Css>,
@@ -19,7 +19,7 @@ pub struct PathWord {
 }
 
 /// Device numbers of a subchannel set that are asked for, from the first to the last.
-#[derive(Clone, Copy, Debug, PartialEq, Eq)]
+#[derive(Clone, Copy, PartialEq, Eq)]
 pub struct DeviceRange {
     /// The subchannel set.
     pub set: SetNo,

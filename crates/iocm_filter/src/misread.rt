@@ -9,7 +9,7 @@ use iocm_types::UnitNo;
 use std::fmt;
 
 /// The options that take such words.
-#[derive(Clone, Copy, Debug, PartialEq, Eq)]
+#[derive(Clone, Copy, PartialEq, Eq)]
 pub enum FilterOption {
     /// `--image`
     Image,

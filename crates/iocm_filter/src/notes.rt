@@ -9,7 +9,7 @@ use iocm_types::{Image, Name, UnitNo};
 use std::alloc::{AllocError, Allocator, Global};
 
 /// What is asked for by its name.
-#[derive(Clone, Copy, Debug, PartialEq, Eq)]
+#[derive(Clone, Copy, PartialEq, Eq)]
 pub enum Asked {
     /// An image.
     Image(ImageWord),

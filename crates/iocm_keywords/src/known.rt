@@ -6,7 +6,7 @@ ghost use Rattle.iocm_keywords.specs.Known.{seen_row};
 use iocm_statements::{OperandKey, Operands, Operation, is_same_word};
 
 /// The form that a known operand stands in.
-#[derive(Clone, Copy, Debug, PartialEq, Eq)]
+#[derive(Clone, Copy, PartialEq, Eq)]
 pub enum Form {
     /// A keyword with a value, which the statement can't do without.
     Required,

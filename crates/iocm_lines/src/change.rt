@@ -31,7 +31,7 @@ impl fmt::Display for ChangeLine {
 }
 
 /// How many subchannels of an image a change altered, by what became of them.
-#[derive(Clone, Copy, Debug, PartialEq, Eq)]
+#[derive(Clone, Copy, PartialEq, Eq)]
 pub struct AlteredCounts {
     /// The image.
     pub image: Image,

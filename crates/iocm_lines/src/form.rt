@@ -1,5 +1,5 @@
 /// In which form a command prints.
-#[derive(Clone, Copy, Debug, PartialEq, Eq)]
+#[derive(Clone, Copy, PartialEq, Eq)]
 pub enum Form {
     /// Plain text, for readers.
     Text,

@@ -8,7 +8,7 @@ use iocm_types::{At, Key, Rule};
 use std::fmt;
 
 /// The text that was refused.
-#[derive(Clone, Copy, Debug, PartialEq, Eq)]
+#[derive(Clone, Copy, PartialEq, Eq)]
 pub enum Input {
     /// A deck.
     Deck,

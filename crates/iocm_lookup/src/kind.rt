@@ -5,7 +5,7 @@ ghost use Rattle.iocm_lookup.specs.Kinds.{IsBeforeKind, IsBehindEarlier};
 use iocm_types::{Chpid, Css, DevNo, Key, SetNo, UnitNo};
 
 /// The kinds of records that are looked for, in the order of keys.
-#[derive(Clone, Copy, Debug, PartialEq, Eq)]
+#[derive(Clone, Copy, PartialEq, Eq)]
 pub enum RecordKind {
     /// Image records.
     Image,

@@ -2,7 +2,7 @@ use iocm_types::{DevNo, NumberCell};
 
 /// That a change of the configuration gave a number cell to another device, took it away, or gave
 /// it out. The word is own.
-#[derive(Clone, Copy, Debug, PartialEq, Eq)]
+#[derive(Clone, Copy, PartialEq, Eq)]
 pub struct NumberChange {
     /// The number cell.
     pub cell: NumberCell,

@@ -1,7 +1,7 @@
 use iocm_types::Answer;
 
 /// What came of a line of a script.
-#[derive(Clone, Copy, Debug, PartialEq, Eq)]
+#[derive(Clone, Copy, PartialEq, Eq)]
 pub struct Answered {
     /// The number of the line.
     pub line: usize,

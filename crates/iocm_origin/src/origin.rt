@@ -9,7 +9,7 @@ use iocm_types::{Fault, Rule};
 use std::alloc::{AllocError, Global};
 
 /// Where in a text a refusal comes from. The word is own.
-#[derive(Clone, Copy, Debug, PartialEq, Eq)]
+#[derive(Clone, Copy, PartialEq, Eq)]
 pub enum Origin {
     /// The line of this number, counted from 1.
     Line(usize),

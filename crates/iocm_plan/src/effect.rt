@@ -16,7 +16,7 @@ use iocm_types::{Chpid, DevNo, Image, SetNo, View};
 
 /// What a change does to an image and a device: what the image sees of the device before and after, and whether
 /// paths that no mask tells of go off.
-#[derive(Clone, Copy, Debug, PartialEq, Eq)]
+#[derive(Clone, Copy, PartialEq, Eq)]
 pub struct Effect {
     /// What the image sees of the device before; nothing where the image or the device isn't there, or isn't
     /// seen.

@@ -14,7 +14,7 @@ use iocm_types::DevNo;
 use std::alloc::{AllocError, Global};
 
 /// Devices of one set that follow each other, and to which a change does the same.
-#[derive(Clone, Copy, Debug, PartialEq, Eq)]
+#[derive(Clone, Copy, PartialEq, Eq)]
 pub struct DeviceRun {
     /// The first of them.
     pub first: DeviceKey,

@@ -12,7 +12,7 @@ use iocm_types::{CssPath, Key, Name};
 use std::alloc::Allocator;
 
 /// What an image has of a path of its channel subsystem.
-#[derive(Clone, Copy, Debug, PartialEq, Eq)]
+#[derive(Clone, Copy, PartialEq, Eq)]
 pub struct ImagePath {
     /// Whether the image is in the path's access or candidate list.
     pub reached: bool,

@@ -1,5 +1,5 @@
 /// What is printed of a change that was made. The word is own.
-#[derive(Clone, Copy, Debug, PartialEq, Eq)]
+#[derive(Clone, Copy, PartialEq, Eq)]
 pub enum Report {
     /// How many subchannels it altered, and the table afterwards.
     Table,

@@ -1,7 +1,7 @@
 use iocm_system::Gate;
 
 /// Who acts in a round.
-#[derive(Clone, Copy, Debug, PartialEq, Eq)]
+#[derive(Clone, Copy, PartialEq, Eq)]
 pub enum Actor {
     /// The first image.
     A,
@@ -24,7 +24,7 @@ pub trait Gates {
 }
 
 /// Every call goes through.
-#[derive(Clone, Copy, Debug)]
+#[derive(Clone, Copy)]
 pub struct AllOpen;
 
 impl Gates for AllOpen {

@@ -2,7 +2,7 @@ use iocm_types::{Key, Rule};
 use std::marker::Model;
 
 /// A rule of a configuration that is broken, and the key of the record that breaks it.
-#[derive(Clone, Copy, Debug, PartialEq, Eq)]
+#[derive(Clone, Copy, PartialEq, Eq)]
 pub struct Breach {
     /// The rule, V1 to V14.
     pub rule: Rule,

@@ -1,7 +1,7 @@
 use crate::Said;
 
 /// A line of a script in which an actor says something.
-#[derive(Clone, Copy, Debug, PartialEq, Eq)]
+#[derive(Clone, Copy, PartialEq, Eq)]
 pub struct Line {
     /// The number of the line, counted from 1 over all lines of the script.
     pub line: usize,
@@ -10,7 +10,7 @@ pub struct Line {
 }
 
 /// What a line of a script is.
-#[derive(Clone, Copy, Debug, PartialEq, Eq)]
+#[derive(Clone, Copy, PartialEq, Eq)]
 pub(crate) enum Spoken {
     /// A comment, or blank.
     Nothing,

@@ -1,28 +1,28 @@
 use iocm_types::{Order, SubId};
 
 /// The threads of images: each gives orders to subchannels, and tells what their devices do.
-#[derive(Clone, Copy, Debug, PartialEq, Eq)]
+#[derive(Clone, Copy, PartialEq, Eq)]
 pub enum ImageThread {
     A,
     B,
 }
 
 /// The threads of operators: each changes the machine.
-#[derive(Clone, Copy, Debug, PartialEq, Eq)]
+#[derive(Clone, Copy, PartialEq, Eq)]
 pub enum OperatorThread {
     P,
     Q,
 }
 
 /// Who says something: the thread of an image, or that of an operator.
-#[derive(Clone, Copy, Debug, PartialEq, Eq)]
+#[derive(Clone, Copy, PartialEq, Eq)]
 pub(crate) enum Actor {
     Image(ImageThread),
     Operator(OperatorThread),
 }
 
 /// What the thread of an image says. Own, but for the orders.
-#[derive(Clone, Copy, Debug, PartialEq, Eq)]
+#[derive(Clone, Copy, PartialEq, Eq)]
 pub enum ImageCommand {
     /// An order to a subchannel: `start`, `halt`, `clear`, `cancel`, `test`, `store` and `modify`.
     Io(SubId, Order),
@@ -33,7 +33,7 @@ pub enum ImageCommand {
 }
 
 /// What the thread of an operator says.
-#[derive(Clone, Copy, Debug, PartialEq, Eq)]
+#[derive(Clone, Copy, PartialEq, Eq)]
 pub enum OperatorCommand {
     /// The change deck of this number is activated at once. Those of the command line count from 1.
     Activate(u64),
@@ -54,7 +54,7 @@ pub enum OperatorCommand {
 }
 
 /// Who says what.
-#[derive(Clone, Copy, Debug, PartialEq, Eq)]
+#[derive(Clone, Copy, PartialEq, Eq)]
 pub enum Said {
     /// The thread of an image says this.
     Image(ImageThread, ImageCommand),

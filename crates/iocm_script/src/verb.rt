@@ -5,7 +5,7 @@ ghost use Rattle.iocm_script.specs.Verbs as meaning;
 ghost use Rattle.iocm_script.specs.Verbs.{seen_row};
 
 /// What a command does, by its word.
-#[derive(Clone, Copy, Debug, PartialEq, Eq)]
+#[derive(Clone, Copy, PartialEq, Eq)]
 pub(crate) enum Verb {
     Start,
     Halt,

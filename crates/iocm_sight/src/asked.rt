@@ -10,7 +10,7 @@ use iocm_types::{Css, Image, Name};
 use std::alloc::{AllocError, Global};
 
 /// An image that filters ask for, by its channel subsystem and its name.
-#[derive(Clone, Copy, Debug, PartialEq, Eq)]
+#[derive(Clone, Copy, PartialEq, Eq)]
 pub struct AskedImage {
     /// The channel subsystem.
     pub css: Css,

@@ -8,7 +8,7 @@ use crate::sight::NamedSight;
 use iocm_types::View;
 
 /// How many devices an image sees, and how many of them with no path online, and with one.
-#[derive(Clone, Copy, Debug, PartialEq, Eq)]
+#[derive(Clone, Copy, PartialEq, Eq)]
 pub struct SeenCounts {
     /// Those that it sees.
     pub devices: usize,

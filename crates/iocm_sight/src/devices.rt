@@ -4,7 +4,7 @@ ghost use Rattle.iocm_sight.specs.Connected as meaning;
 use iocm_types::{DevNo, Key, SetNo};
 
 /// A device by its subchannel set and its number there.
-#[derive(Clone, Copy, Debug, PartialEq, Eq)]
+#[derive(Clone, Copy, PartialEq, Eq)]
 pub struct DeviceKey {
     /// The subchannel set.
     pub set: SetNo,

@@ -1,7 +1,7 @@
 use iocm_types::{Image, Name};
 
 /// An image that sees devices, with how many of their paths are installed in it, and online to it.
-#[derive(Clone, Copy, Debug, PartialEq, Eq)]
+#[derive(Clone, Copy, PartialEq, Eq)]
 pub struct SeenBy {
     /// The image.
     pub image: Image,

@@ -9,7 +9,7 @@ use std::marker::Model;
 
 /// What an operand stands under: its keyword, or, for a bare text, its place in the statement,
 /// counted from 0 over all operands.
-#[derive(Debug, Drop, PartialEq, Eq, Hash)]
+#[derive(Drop, PartialEq, Eq, Hash)]
 pub enum OperandKey {
     Keyword(ShortText),
     Bare(usize),

@@ -2,7 +2,7 @@ ghost use Rattle.std.specs.Prelude.{◌≡◌};
 ghost use Rattle.iocm_statements.specs.Operation.{operation_name, operation_named};
 
 /// What a statement does: the five of configuration decks, and those of change decks.
-#[derive(Clone, Copy, Debug, PartialEq, Eq)]
+#[derive(Clone, Copy, PartialEq, Eq)]
 pub enum Operation {
     Id,
     Resource,

@@ -7,7 +7,7 @@ use std::marker::Model;
 
 /// A keyword or a value. Up to 16 bytes of it are kept in place, since most are no longer; a longer
 /// one has memory of its own. Contracts see the list of its bytes.
-#[derive(Debug, Drop)]
+#[derive(Drop)]
 pub struct ShortText {
     bytes: SmallVec<u8, 16>,
 }

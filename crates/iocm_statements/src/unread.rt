@@ -5,7 +5,7 @@ use iocm_types::{Fault, Rule};
 use std::alloc::{AllocError, AllocFailed};
 
 /// Why a text was not read.
-#[derive(Clone, Copy, Debug, PartialEq, Eq)]
+#[derive(Clone, Copy, PartialEq, Eq)]
 pub enum Unread {
     /// Memory was wanted.
     Memory,

@@ -5,7 +5,7 @@ use iocm_core::Call;
 use iocm_types::{Order, SubId};
 
 /// What was asked of a machine, without the change tree that a call may have.
-#[derive(Clone, Copy, Debug, PartialEq, Eq)]
+#[derive(Clone, Copy, PartialEq, Eq)]
 pub enum Asked {
     /// An order of an image on its subchannel.
     Io(SubId, Order),

@@ -8,7 +8,7 @@ pub trait Gate {
 }
 
 /// The gate through which every call goes.
-#[derive(Clone, Copy, Debug)]
+#[derive(Clone, Copy)]
 pub struct Open;
 
 impl Gate for Open {

@@ -3,7 +3,7 @@ use iocm_core::Call;
 use iocm_types::{Answer, Rule};
 
 /// What a caller gets for a call that was made and recorded.
-#[derive(Clone, Copy, Debug, PartialEq, Eq)]
+#[derive(Clone, Copy, PartialEq, Eq)]
 pub struct Receipt {
     /// The call's place in the trace, from 0.
     pub number: u64,

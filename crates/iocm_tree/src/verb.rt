@@ -1,5 +1,5 @@
 /// What an edit does with a record of a configuration. The words are own.
-#[derive(Clone, Copy, Debug, PartialEq, Eq)]
+#[derive(Clone, Copy, PartialEq, Eq)]
 pub enum Verb {
     /// A record is added under a key that has none.
     Add,

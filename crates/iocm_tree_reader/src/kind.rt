@@ -1,5 +1,5 @@
 /// What a node is that a statement opens. The words are own.
-#[derive(Clone, Copy, Debug, PartialEq, Eq)]
+#[derive(Clone, Copy, PartialEq, Eq)]
 pub enum NodeKind {
     /// The parts are performed in order, all or none.
     Row,

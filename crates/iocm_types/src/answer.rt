@@ -2,7 +2,7 @@ use crate::{Io, Refused};
 
 /// What a machine counts: its records, its subchannels, the changes that stand, and those that are
 /// undone.
-#[derive(Clone, Copy, Debug, PartialEq, Eq)]
+#[derive(Clone, Copy, PartialEq, Eq)]
 pub struct Counts {
     pub records: u64,
     pub subchannels: u64,
@@ -11,7 +11,7 @@ pub struct Counts {
 }
 
 /// The answer to a call. Own, but for those to orders.
-#[derive(Clone, Copy, Debug, PartialEq, Eq)]
+#[derive(Clone, Copy, PartialEq, Eq)]
 pub enum Answer {
     /// To an order.
     Io(Io),

@@ -5,7 +5,7 @@ use std::marker::Model;
 
 /// The number of a channel path in its channel subsystem, 00 to FF (IOCP User's Guide, CHPID
 /// statement).
-#[derive(Clone, Copy, Debug, PartialEq, Eq, PartialOrd, Ord)]
+#[derive(Clone, Copy, PartialEq, Eq, PartialOrd, Ord)]
 pub struct Chpid {
     number: u8,
 }

@@ -4,7 +4,7 @@ use std::fmt;
 use std::marker::Model;
 
 /// The number of a channel subsystem, 0 to 5 (IOCP User's Guide, `CSS(n)`).
-#[derive(Clone, Copy, Debug, PartialEq, Eq, PartialOrd, Ord)]
+#[derive(Clone, Copy, PartialEq, Eq, PartialOrd, Ord)]
 pub struct Css {
     number: u8,
 }

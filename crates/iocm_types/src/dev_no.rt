@@ -4,7 +4,7 @@ use std::fmt;
 use std::marker::Model;
 
 /// A device number, 0000 to FFFF (IOCP User's Guide, IODEVICE statement).
-#[derive(Clone, Copy, Debug, PartialEq, Eq, PartialOrd, Ord)]
+#[derive(Clone, Copy, PartialEq, Eq, PartialOrd, Ord)]
 pub struct DevNo {
     number: u16,
 }

@@ -7,7 +7,7 @@ use std::fmt;
 
 /// What a record of a configuration stands under. A configuration has at most one record of each
 /// key. The kinds stand in the order of keys; within a kind the numbers decide, from left to right.
-#[derive(Clone, Copy, Debug, PartialEq, Eq, PartialOrd, Ord)]
+#[derive(Clone, Copy, PartialEq, Eq, PartialOrd, Ord)]
 pub enum Key {
     /// The ID statement.
     Id,

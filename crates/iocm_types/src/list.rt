@@ -4,7 +4,7 @@ use std::alloc::{AllocError, Allocator, Global};
 use std::marker::Model;
 
 /// A list of small values that owns its memory. Contracts see the list.
-#[derive(Debug, Drop)]
+#[derive(Drop)]
 pub struct List<T, A: Allocator = Global> {
     items: Vec<T, A>,
 }

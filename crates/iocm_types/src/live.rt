@@ -1,7 +1,7 @@
 use crate::{Mask, Parm};
 
 /// A function that a subchannel performs (Principles of Operation, basic I/O functions).
-#[derive(Clone, Copy, Debug, PartialEq, Eq)]
+#[derive(Clone, Copy, PartialEq, Eq)]
 pub enum Function {
     Start,
     Halt,
@@ -11,7 +11,7 @@ pub enum Function {
 /// Where a subchannel is in its work. The phases are own; the Principles of Operation have
 /// function, activity and status control bits for them. In the four between `Idle` and `Pending`
 /// the subchannel is busy.
-#[derive(Clone, Copy, Debug, PartialEq, Eq)]
+#[derive(Clone, Copy, PartialEq, Eq)]
 pub enum Phase {
     /// Nothing is in progress or pending.
     Idle,
@@ -30,7 +30,7 @@ pub enum Phase {
 /// What a subchannel remembers while it is there: its interruption parameter, whether it is enabled,
 /// its logical-path mask, and its phase (Principles of Operation, path-management-control word).
 /// None of them has room before it that holds nothing.
-#[derive(Clone, Copy, Debug, PartialEq, Eq)]
+#[derive(Clone, Copy, PartialEq, Eq)]
 pub struct Live {
     pub parm: Parm,
     pub enabled: bool,

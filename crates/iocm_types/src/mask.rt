@@ -5,7 +5,7 @@ use std::marker::Model;
 
 /// A path mask of eight bits, the leftmost for the first path of the path list (Principles of
 /// Operation, path-installed, path-available and logical-path mask). Contracts see its number.
-#[derive(Clone, Copy, Debug, PartialEq, Eq)]
+#[derive(Clone, Copy, PartialEq, Eq)]
 pub struct Mask {
     bits: u8,
 }

@@ -5,7 +5,7 @@ use std::marker::Model;
 
 /// A MIF image ID, 1 to F, the number of an image in its channel subsystem (IOCP User's Guide,
 /// RESOURCE statement).
-#[derive(Clone, Copy, Debug, PartialEq, Eq, PartialOrd, Ord)]
+#[derive(Clone, Copy, PartialEq, Eq, PartialOrd, Ord)]
 pub struct Mif {
     number: u8,
 }

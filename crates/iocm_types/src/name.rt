@@ -8,7 +8,7 @@ use std::{fmt, str};
 
 /// The name of an image (logical partition): a letter A to Z, then letters and digits, one to eight
 /// in all, and not `REC` (IOCP User's Guide, RESOURCE statement). Contracts see its bytes.
-#[derive(Clone, Copy, Debug)]
+#[derive(Clone, Copy)]
 pub struct Name {
     bytes: [u8; 8],
     len: u8,

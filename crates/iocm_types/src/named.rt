@@ -6,7 +6,7 @@ use std::cmp::Ordering;
 
 /// What a record names: another record by its key, the images of a name, or a unit address of a
 /// control unit. That records name each other so is own.
-#[derive(Clone, Copy, Debug, PartialEq, Eq, PartialOrd, Ord)]
+#[derive(Clone, Copy, PartialEq, Eq, PartialOrd, Ord)]
 pub enum Named {
     /// The record of this key.
     Record(Key),

@@ -2,7 +2,7 @@ use crate::{DevNo, Mask, ScswBits};
 
 /// An order of an image on one of its subchannels (Principles of Operation, chapter on I/O
 /// instructions).
-#[derive(Clone, Copy, Debug, PartialEq, Eq)]
+#[derive(Clone, Copy, PartialEq, Eq)]
 pub enum Order {
     /// START SUBCHANNEL.
     Start,
@@ -22,7 +22,7 @@ pub enum Order {
 }
 
 /// What MODIFY SUBCHANNEL sets.
-#[derive(Clone, Copy, Debug, PartialEq, Eq)]
+#[derive(Clone, Copy, PartialEq, Eq)]
 pub struct Setting {
     pub enabled: bool,
     pub lpm: Mask,
@@ -30,7 +30,7 @@ pub struct Setting {
 }
 
 /// What STORE SUBCHANNEL gives.
-#[derive(Clone, Copy, Debug, PartialEq, Eq)]
+#[derive(Clone, Copy, PartialEq, Eq)]
 pub struct Stored {
     pub device: DevNo,
     pub pim: Mask,
@@ -42,7 +42,7 @@ pub struct Stored {
 }
 
 /// The answer to an order.
-#[derive(Clone, Copy, Debug, PartialEq, Eq)]
+#[derive(Clone, Copy, PartialEq, Eq)]
 pub enum Io {
     /// A condition code, 0 to 3.
     Code(u8),

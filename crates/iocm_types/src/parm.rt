@@ -5,7 +5,7 @@ use std::marker::Model;
 /// An interruption parameter, 32 bits that the program gives with MODIFY (Principles of Operation,
 /// subchannel-information block). It is kept as two halves, so that a struct with one is aligned to
 /// two bytes, not to four. Contracts see its number.
-#[derive(Clone, Copy, Debug)]
+#[derive(Clone, Copy)]
 pub struct Parm {
     high: u16,
     low: u16,

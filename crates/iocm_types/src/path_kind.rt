@@ -1,6 +1,6 @@
 /// How a channel path is used by the images of its channel subsystem (IOCP User's Guide, CHPID
 /// statement).
-#[derive(Clone, Copy, Debug, PartialEq, Eq)]
+#[derive(Clone, Copy, PartialEq, Eq)]
 pub enum PathKind {
     /// By one image, for good.
     Dedicated,

@@ -8,7 +8,7 @@ pub const MOST_PATHS: usize = 8;
 
 /// A list of at most eight channel paths, in the order of the masks' bits. It takes no memory, and
 /// is copied as it is. Contracts see the list of the paths' numbers.
-#[derive(Clone, Copy, Debug)]
+#[derive(Clone, Copy)]
 pub struct Paths {
     /// The paths, and 00 behind them.
     list: [Chpid; MOST_PATHS],

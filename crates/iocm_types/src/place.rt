@@ -2,7 +2,7 @@ use crate::{Css, DevNo, SetNo};
 
 /// Where a device has a subchannel number: it has one in each channel subsystem that reaches it.
 /// Places are ordered by channel subsystem, set and device number. The word is own.
-#[derive(Clone, Copy, Debug, PartialEq, Eq, PartialOrd, Ord)]
+#[derive(Clone, Copy, PartialEq, Eq, PartialOrd, Ord)]
 pub struct Place {
     /// The channel subsystem.
     pub css: Css,
@@ -15,7 +15,7 @@ pub struct Place {
 /// A subchannel number of a channel subsystem and subchannel set, 0000 to FFFF; it is a device's,
 /// or free (Principles of Operation, subchannel number). Cells are ordered by channel subsystem,
 /// set and number. The word is own.
-#[derive(Clone, Copy, Debug, PartialEq, Eq, PartialOrd, Ord)]
+#[derive(Clone, Copy, PartialEq, Eq, PartialOrd, Ord)]
 pub struct NumberCell {
     /// The channel subsystem.
     pub css: Css,

@@ -3,7 +3,7 @@ ghost use Rattle.std.specs.Prelude.{◌≡◌};
 use crate::{Key, Rule, SubId};
 
 /// What a refusal is about.
-#[derive(Clone, Copy, Debug, PartialEq, Eq)]
+#[derive(Clone, Copy, PartialEq, Eq)]
 pub enum At {
     /// The record of this key.
     Key(Key),
@@ -17,7 +17,7 @@ pub enum At {
 
 /// Why a change was refused: the rule, the node of the change tree where it was refused, counted in
 /// preorder from 0, and what it is about. A refusal that is not of a part of a tree names no node.
-#[derive(Clone, Copy, Debug, PartialEq, Eq)]
+#[derive(Clone, Copy, PartialEq, Eq)]
 pub struct Refused {
     pub rule: Rule,
     pub node: Option<u64>,

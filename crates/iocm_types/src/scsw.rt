@@ -3,7 +3,7 @@ use bitflags::{Flag, Flags, bitflag_items};
 /// The function and status bits that a subchannel shows: the function in progress or pending, and
 /// whether its status is pending. The values are own (the subchannel-status word of the Principles
 /// of Operation has more, and in other places).
-#[derive(Clone, Copy, PartialEq, Eq, Debug)]
+#[derive(Clone, Copy, PartialEq, Eq)]
 pub struct ScswBits(u8);
 
 bitflag_items! {

@@ -4,7 +4,7 @@ use std::fmt;
 use std::marker::Model;
 
 /// The number of a subchannel set, 0 to 3 (IOCP User's Guide, `SCHSET`).
-#[derive(Clone, Copy, Debug, PartialEq, Eq, PartialOrd, Ord)]
+#[derive(Clone, Copy, PartialEq, Eq, PartialOrd, Ord)]
 pub struct SetNo {
     number: u8,
 }

@@ -6,7 +6,7 @@ use std::cmp::Ordering;
 
 /// The name of a subchannel: whose it is, in which subchannel set, and its number there, 0000 to
 /// FFFF (Principles of Operation, subchannel number; sets: IOCP User's Guide, `SCHSET`).
-#[derive(Clone, Copy, Debug, PartialEq, Eq, PartialOrd, Ord)]
+#[derive(Clone, Copy, PartialEq, Eq, PartialOrd, Ord)]
 pub struct SubId {
     /// The image that the subchannel is of.
     pub image: Image,

@@ -5,7 +5,7 @@ use std::hash::{Hash, Hasher};
 use std::marker::Model;
 
 /// A text of bytes that owns its memory. Contracts see the list of its bytes.
-#[derive(Debug, Drop)]
+#[derive(Drop)]
 pub struct Text<A: Allocator = Global> {
     bytes: Vec<u8, A>,
 }

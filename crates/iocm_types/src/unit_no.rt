@@ -4,7 +4,7 @@ use std::fmt;
 use std::marker::Model;
 
 /// The number of a control unit, 0000 to FFFE (IOCP User's Guide, CNTLUNIT statement).
-#[derive(Clone, Copy, Debug, PartialEq, Eq, PartialOrd, Ord)]
+#[derive(Clone, Copy, PartialEq, Eq, PartialOrd, Ord)]
 pub struct UnitNo {
     number: u16,
 }

@@ -1,6 +1,6 @@
 /// A range of unit addresses: the first, and how many there are, 1 to 256 (IOCP User's Guide,
 /// CNTLUNIT statement).
-#[derive(Clone, Copy, Debug, PartialEq, Eq)]
+#[derive(Clone, Copy, PartialEq, Eq)]
 pub struct UnitRange {
     /// The first unit address, 00 to FF.
     pub start: u8,

@@ -3,7 +3,7 @@ use crate::{DevNo, Mask, Paths};
 /// What an image sees at one of its subchannels: the device, its paths there in the order of the
 /// masks' bits, and the path-installed and path-available masks (Principles of Operation,
 /// path-management-control word).
-#[derive(Clone, Copy, Debug, PartialEq, Eq)]
+#[derive(Clone, Copy, PartialEq, Eq)]
 pub struct View {
     /// The number of the device.
     pub device: DevNo,

@@ -8,7 +8,7 @@ use iocm_types::{Name, Text};
 use std::alloc::{AllocError, Global};
 
 /// An image that sees devices, and how many paths it has to them.
-#[derive(Clone, Copy, Debug, PartialEq, Eq)]
+#[derive(Clone, Copy, PartialEq, Eq)]
 pub struct ImagePaths {
     /// How many paths are online.
     pub online: u32,

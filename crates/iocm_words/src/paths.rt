@@ -9,7 +9,7 @@ use iocm_values::{comma_text, printed, subsystem};
 use std::alloc::{AllocError, Global};
 
 /// A channel path, and how it reaches a control unit.
-#[derive(Clone, Copy, Debug, PartialEq, Eq)]
+#[derive(Clone, Copy, PartialEq, Eq)]
 pub struct LinkedPath {
     /// The channel subsystem.
     pub css: Css,

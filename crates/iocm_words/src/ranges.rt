@@ -8,7 +8,7 @@ use iocm_types::{DevNo, SetNo, Text, UnitRange};
 use std::alloc::{AllocError, Global};
 
 /// Device numbers of a subchannel set, from the first to the last.
-#[derive(Clone, Copy, Debug, PartialEq, Eq)]
+#[derive(Clone, Copy, PartialEq, Eq)]
 pub struct DeviceNumbers {
     /// The subchannel set.
     pub set: SetNo,
@@ -19,7 +19,7 @@ pub struct DeviceNumbers {
 }
 
 /// How many subchannel numbers of a set a channel subsystem has taken.
-#[derive(Clone, Copy, Debug, PartialEq, Eq)]
+#[derive(Clone, Copy, PartialEq, Eq)]
 pub struct SetNumbers {
     /// The subchannel set.
     pub set: SetNo,

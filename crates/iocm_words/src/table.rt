@@ -5,7 +5,7 @@ ghost use Rattle.iocm_words.specs.Table.{columns_of, cells_of, rows_of, first_ce
 use std::alloc::{AllocError, Global};
 
 /// The side of its column on which a cell stands.
-#[derive(Clone, Copy, Debug, PartialEq, Eq)]
+#[derive(Clone, Copy, PartialEq, Eq)]
 pub enum Side {
     /// To the left, as words do.
     Left,
@@ -14,7 +14,7 @@ pub enum Side {
 }
 
 /// A column of a table.
-#[derive(Clone, Copy, Debug)]
+#[derive(Clone, Copy)]
 pub struct Column {
     /// Its heading, in ASCII.
     pub heading: &'static [u8],
