@@ -1,11 +1,15 @@
 pub mod Alone
 pub mod GoingBack
 pub mod Itself
+pub mod LeftAlike
+pub mod LeftWorked
 pub mod Lists
 pub mod MoreWorked
 pub mod OwnRoute
 pub mod RunDevices
 pub mod RunSides
+pub mod RunSums
 pub mod SeenViews
 pub mod ToldAlike
+pub mod Unfiltered
 pub mod Worked

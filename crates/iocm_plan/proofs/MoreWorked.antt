@@ -22,6 +22,8 @@ module _ (c d : Configuration) (e : entries c ≡ with_keys base) (f : entries d
   in_runs = record {
     itself = simp (get-entries, e);
     changed = simp (get-entries, e, f);
+    in_range = simp (get-entries, e);
+    in_no_range = simp e;
   }
 
 pub objects_as_worked : ObjectsAreAsWorked before after

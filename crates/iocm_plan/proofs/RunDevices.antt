@@ -5,12 +5,12 @@ use Rattle.std.proofs.Common.{refl, sym, ap, ◌∙◌, eqb-true, arith}
 use Rattle.std.specs.List.{flat_map}
 use Rattle.std.proofs.lemmas.Bool.{and_parts}
 use Rattle.iocm_model.specs.Machine.Configuration.{Configuration}
-use Rattle.iocm_plan.specs.Runs.{alone, are_alike, continues, devices_from, devices_in_run, devices_of_both, runs_among}
+use Rattle.iocm_plan.specs.Runs.{alone, are_alike, continues, devices_from, devices_asked, devices_in_run, runs_among}
 use Rattle.iocm_plan.specs.Runs.{runs_from, with_one_more}
 use Rattle.iocm_plan.specs.ToldAlike.{RunsAreTheDevices, RunsAreToldAlike}
 use Rattle.iocm_sight.specs.declared.devices.DeviceKey.{DeviceKey}
 use Rattle.iocm_plan.specs.declared.runs.DeviceRun.{DeviceRun}
-use Rattle.iocm_plan.proofs.ToldAlike.{told_alike}
+use Rattle.iocm_plan.proofs.LeftAlike.{left_alike}
 
 -- one more device at the end
 abbrev at_end : ℕ → ℕ → List DeviceKey
@@ -24,12 +24,12 @@ one_more set number (suc n) =
     (one_more set (number + 1) n ∙ ap (λ x. devices_from set (number + 1) n ++ at_end set x) e)
 
 module _ (c d : Configuration) where
-  parts : (r : DeviceRun) (k : DeviceKey) → continues c d r k ≡ true
+  pub parts : (r : DeviceRun) (k : DeviceKey) → continues c d r k ≡ true
       → ((k.set == r.first.set && k.number == r.first.number + r.count) ≡ true) × (are_alike c d r.first k ≡ true)
   parts r k h = and_parts (k.set == r.first.set && k.number == r.first.number + r.count) (are_alike c d r.first k) h
 
   -- a run with a device that continues it
-  longer : (r : DeviceRun) (k : DeviceKey) → continues c d r k ≡ true
+  pub longer : (r : DeviceRun) (k : DeviceKey) → continues c d r k ≡ true
       → devices_in_run (with_one_more r) ≡ devices_in_run r ++ k ∷ []
   longer r k h =
       let p = and_parts (k.set == r.first.set) (k.number == r.first.number + r.count) (parts r k h).0 in
@@ -53,12 +53,13 @@ module _ (c d : Configuration) where
       by true is more other = more ∙ ap (λ xs. xs ++ ks) (longer r k is) ∙ append_assoc (devices_in_run r) (k ∷ []) ks
       by false is more other = ap (λ xs. devices_in_run r ++ xs) other
 
-  among : (ks : List DeviceKey) → flat_map devices_in_run (runs_among c d ks) ≡ ks
+  pub among : (ks : List DeviceKey) → flat_map devices_in_run (runs_among c d ks) ≡ ks
   among [] = refl
   among (k ∷ ks) = from_run (alone k) ks
 
 pub runs_are_devices : RunsAreTheDevices
-runs_are_devices c d = among c d (devices_of_both c d)
+runs_are_devices w c d = among c d (devices_asked w c d)
 
 pub runs_told_alike : RunsAreToldAlike
-runs_told_alike c d i r k h = told_alike c d i r.first k (parts c d r k h).1
+runs_told_alike w is_lost c d i r k h =
+    left_alike w is_lost c d i r.first k (parts c d r k h.next).1 h.first_asked h.asked

@@ -24,7 +24,7 @@ use Rattle.iocm_plan.proofs.Alone.{alone_before}
 
 -- ---- what is seen
 
-same_units : (d e : DeviceRecord) → is_seen_alike d e ≡ true → d.units ≡ e.units
+pub same_units : (d e : DeviceRecord) → is_seen_alike d e ≡ true → d.units ≡ e.units
 same_units d e h = same_text d.units e.units
     (sym (and_parts _ (option_eq same_names d.candidates e.candidates) h).0)
 
@@ -53,7 +53,7 @@ seen_is c i d = unnumbered_if
     (is_candidate i.name d.candidates && list_any (reaches c i.css i.name) (path_list c i.css d.units))
     (view_of c i.css i.name d)
 
-seen_alike : (c : Lookup) (i : ImageRecord) (d e : DeviceRecord) → is_seen_alike d e ≡ true
+pub seen_alike : (c : Lookup) (i : ImageRecord) (d e : DeviceRecord) → is_seen_alike d e ≡ true
     → option_map unnumbered (view_in (side_with c d i)) ≡ option_map unnumbered (view_in (side_with c e i))
 seen_alike c i d e h = seen_is c i d
     ∙ (λ x. seen_by c i (same_units d e h x) (same_candidates d e h x)) ∙ sym (seen_is c i e)
@@ -71,7 +71,7 @@ paths_alike : (c : Lookup) (i : ImageRecord) (d e : DeviceRecord) → is_seen_al
 paths_alike c i d e h = sym (own_paths (view_in (side_with c d i))) ∙ ap paths_of (seen_alike c i d e h)
     ∙ own_paths (view_in (side_with c e i))
 
-on_alike : (c : Lookup) (i : ImageRecord) (d e : DeviceRecord) → is_seen_alike d e ≡ true
+pub on_alike : (c : Lookup) (i : ImageRecord) (d e : DeviceRecord) → is_seen_alike d e ≡ true
     → on (view_in (side_with c d i)) ≡ on (view_in (side_with c e i))
 on_alike c i d e h = sym (own_on (view_in (side_with c d i))) ∙ ap on (seen_alike c i d e h)
     ∙ own_on (view_in (side_with c e i))
@@ -121,11 +121,11 @@ module _ (c d : Lookup) (i j : ImageRecord) (k l m n : DeviceRecord)
 
 -- ---- an image and devices that are there, or not
 
-abbrev side_on : Lookup → Option ImageRecord → Option DeviceRecord → Option Side
+abbrev pub side_on : Lookup → Option ImageRecord → Option DeviceRecord → Option Side
 side_on c i d = option_and_then (λ e. option_map (side_with c e) i) d
 
-by_sides : (P : Option Side → Option Side → Type 0) (c : Lookup) (i : Option ImageRecord) (k l : Option DeviceRecord)
-    → option_eq is_seen_alike k l ≡ true → P None None
+pub by_sides : (P : Option Side → Option Side → Type 0) (c : Lookup) (i : Option ImageRecord)
+    (k l : Option DeviceRecord) → option_eq is_seen_alike k l ≡ true → P None None
     → ((r : ImageRecord) (x y : DeviceRecord) → k ≡ Some x → l ≡ Some y → is_seen_alike x y ≡ true
     → P (Some (side_with c x r)) (Some (side_with c y r)))
     → P (side_on c i k) (side_on c i l)
@@ -169,7 +169,7 @@ module _ (c d : Lookup) (i j : Option ImageRecord) (k l m n : Option DeviceRecor
   told_of_both = by_sides (λ b b'. IsToldAlike b b' (side_on d j m) (side_on d j n)) c i k l before
       none_before some_before
 
-one_truth : (a b : Bool) → same_truth a b ≡ true → a ≡ b
+pub one_truth : (a b : Bool) → same_truth a b ≡ true → a ≡ b
 one_truth true b h = sym h
 one_truth false true h = h
 one_truth false false h = refl

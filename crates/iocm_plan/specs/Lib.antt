@@ -1,6 +1,8 @@
 pub mod Effects
 pub mod Examples
 pub mod Laws
+pub mod Left
+pub mod LeftExamples
 pub mod MoreExamples
 pub mod Objects
 pub mod Routes

@@ -6,7 +6,8 @@ use Rattle.iocm_model.specs.Machine.Record.{Rec, device, image}
 use Rattle.iocm_examples.specs.BaseDeck.{base, device_on_1000, device_record, lpa, lpb, online_record, shared_path}
 use Rattle.iocm_examples.specs.BaseDeck.{path_record, unit_on}
 use Rattle.iocm_plan.specs.Objects.{is_added, is_deleted, is_changed}
-use Rattle.iocm_plan.specs.Runs.{runs}
+use Rattle.iocm_filter.specs.Wanted.{Wanted, nothing}
+use Rattle.iocm_plan.specs.Runs.{runs_asked}
 use Rattle.iocm_plan.specs.declared.runs.DeviceRun.{DeviceRun}
 
 -- the example deck in which path 51 isn't online to LPA, device 1001 has unit address 08, 1003 is gone and 1005 has
@@ -32,9 +33,16 @@ pub record ObjectsAreAsWorked (c d : Configuration) : Type 0 where
   -- a pair is no object
   pub pair : is_deleted c d (key.Online 0 0x51 lpa) ≡ false
 
+-- the devices of set 0 from one number to another
+abbrev pub by_range : ℕ → ℕ → Wanted
+by_range first last = record nothing { devices = record { set = 0; first = first; last = last } ∷ [] }
+
 pub record RunsAreAsWorked (c d : Configuration) : Type 0 where
-  pub itself : runs c c ≡ run_of 0x1000 4 ∷ []
-  pub changed : runs c d ≡ run_of 0x1000 1 ∷ run_of 0x1001 1 ∷ run_of 0x1002 1 ∷ run_of 0x1003 1 ∷ run_of 0x1005 1 ∷ []
+  pub itself : runs_asked nothing c c ≡ run_of 0x1000 4 ∷ []
+  pub changed : runs_asked nothing c d
+      ≡ run_of 0x1000 1 ∷ run_of 0x1001 1 ∷ run_of 0x1002 1 ∷ run_of 0x1003 1 ∷ run_of 0x1005 1 ∷ []
+  pub in_range : runs_asked (by_range 0x1001 0x1002) c c ≡ run_of 0x1001 2 ∷ []
+  pub in_no_range : runs_asked (by_range 0x2000 0x2002) c c ≡ []
 
 abbrev pub before : Configuration
 before = configuration_of base

@@ -1,5 +1,6 @@
--- What a change does to images and to runs of devices: an image is asked once for each run.
-use Rattle.std.specs.Prelude.{Bool, Option, None, Some, List, map}
+-- The images of both configurations, and an image with the first device of a run: an image is asked once for each
+-- run.
+use Rattle.std.specs.Prelude.{Bool, Option, None, Some, List}
 use Rattle.std.specs.FinMap.{entries}
 use Rattle.std.specs.List.{filter_map, list_any}
 use Rattle.std.specs.Option.{option_map}
@@ -7,21 +8,14 @@ use Rattle.iocm_types.specs.declared.image.Image.{Image}
 use Rattle.iocm_types.specs.declared.key.Key.{Key}
 use Rattle.iocm_types.specs.declared.key.Key.TheVariants as key
 use Rattle.iocm_derive.specs.Sighted.{Sighted}
-use Rattle.iocm_model.specs.Machine.Configuration.{Configuration, Lookup, lookup_of}
+use Rattle.iocm_model.specs.Machine.Configuration.{Configuration, lookup_of}
 use Rattle.iocm_model.specs.Machine.View.{device_record}
 use Rattle.iocm_difference.specs.Walks.{Pair, pairs_of}
-use Rattle.iocm_plan.specs.Effects.{affects, effect}
+use Rattle.iocm_plan.specs.Effects.{affects}
 use Rattle.iocm_plan.specs.Seen.{Side, image_record, side_with}
 use Rattle.iocm_plan.specs.Sides.{sighted}
 use Rattle.iocm_plan.specs.declared.effect.Effect.{Effect}
 use Rattle.iocm_plan.specs.declared.runs.DeviceRun.{DeviceRun}
-
--- what a change does to an image and the first device of a run, to whose others it does the same
-abbrev pub effect_on_run : Lookup → Lookup → Image → DeviceRun → Effect
-effect_on_run c d i r = effect c d i r.first.set r.first.number
-
-abbrev pub effects_on_runs : Lookup → Lookup → Image → List DeviceRun → List Effect
-effects_on_runs c d i rs = map (effect_on_run c d i) rs
 
 -- the image at a place of a configuration, if it is there
 abbrev pub sighted_at : Configuration → Image → Option Sighted

@@ -1,7 +1,6 @@
 -- The devices of two configurations, in runs to which a change does the same.
 use Rattle.std.specs.Prelude.{ℕ, zero, suc, ◌+◌, Bool, false, not, nat_eq, ◌==◌, ◌&&◌, if◌then◌else◌, Option, None}
-use Rattle.std.specs.Prelude.{Some, List, []}
-use Rattle.std.specs.Prelude.{◌∷◌}
+use Rattle.std.specs.Prelude.{Some, List, [], ◌∷◌, filter}
 use Rattle.std.specs.FinMap.{entries}
 use Rattle.std.specs.List.{filter_map}
 use Rattle.std.specs.Option.{option_eq}
@@ -11,6 +10,7 @@ use Rattle.iocm_model.specs.Machine.Record.{DeviceRecord}
 use Rattle.iocm_model.specs.Machine.View.{device_record}
 use Rattle.iocm_difference.specs.Same.{same_names}
 use Rattle.iocm_difference.specs.Walks.{Pair, pairs_of}
+use Rattle.iocm_filter.specs.Wanted.{Wanted, is_within, one_if_asked}
 use Rattle.iocm_plan.specs.Routes.{is_one_device}
 use Rattle.iocm_sight.specs.Connected.{device_key}
 use Rattle.iocm_sight.specs.declared.devices.DeviceKey.{DeviceKey}
@@ -21,6 +21,13 @@ use Rattle.iocm_plan.specs.declared.runs.DeviceRun.{DeviceRun}
 -- every device of one of two configurations, or of both, in the order of keys
 abbrev pub devices_of_both : Configuration → Configuration → List DeviceKey
 devices_of_both c d = filter_map (λ (p : Pair). device_key p.0) (pairs_of (entries c) (entries d))
+
+-- no device is asked for, or this one is in a range that is; the devices of both that are asked for
+abbrev pub wants_key : Wanted → DeviceKey → Bool
+wants_key w k = one_if_asked (is_within k.set k.number) w.devices
+
+abbrev pub devices_asked : Wanted → Configuration → Configuration → List DeviceKey
+devices_asked w c d = filter (wants_key w) (devices_of_both c d)
 
 abbrev pub device_in : Configuration → DeviceKey → Option DeviceRecord
 device_in c k = device_record (lookup_of c) k.set k.number
@@ -66,9 +73,9 @@ abbrev pub runs_among : Configuration → Configuration → List DeviceKey → L
 runs_among c d [] = []
 runs_among c d (k ∷ ks) = runs_from c d (alone k) ks
 
--- the runs of all devices of both
-abbrev pub runs : Configuration → Configuration → List DeviceRun
-runs c d = runs_among c d (devices_of_both c d)
+-- the runs of the devices of both that are asked for
+abbrev pub runs_asked : Wanted → Configuration → Configuration → List DeviceRun
+runs_asked w c d = runs_among c d (devices_asked w c d)
 
 -- the devices of a run, one by one
 abbrev pub devices_from : ℕ → ℕ → ℕ → List DeviceKey

@@ -4,26 +4,31 @@ ghost use Rattle.iocm_plan.specs.Runs as meaning;
 
 use iocm_config::Config;
 use iocm_difference::Merge;
+use iocm_filter::Filters;
 use iocm_sight::{DeviceKey, device_key};
 use iocm_types::{Image, Key};
 use std::alloc::{AllocError, Global};
 
-/// Every device of one of two configurations, or of both, in the order of keys. The time is that of one walk over
-/// both.
+/// The devices of one of two configurations, or of both, that are in a range that filters ask for, in the order of
+/// keys. The time is that of one walk over both.
 ///
 /// `AllocError` (M1): memory ran out.
-pub fn devices_of_both(
+pub fn devices_asked(
     alloc: Global,
+    filters: &Filters,
     old: &Config,
     new: &Config,
 ) -> Result<Vec<DeviceKey>, AllocError>
-    ensures { IfOk result (λ devices. devices.items ≡ meaning.devices_of_both old.now.records new.now.records) }
+    ensures { IfOk result
+        (λ devices. devices.items ≡ meaning.devices_asked filters.now old.now.records new.now.records) }
 {
     let mut devices = Vec::new(alloc);
     let mut merge = Merge::new(old, new);
     while let Some(met) = merge.step() {
         if let Some(device) = device_key(met.key) {
-            devices.push(device)?;
+            if filters.wants_number(device.set, device.number) {
+                devices.push(device)?;
+            }
         }
     }
     Ok(devices)

@@ -3,6 +3,7 @@ ghost use Rattle.std.specs.Option.{option_eq, option_map};
 ghost use Rattle.iocm_model.specs.Machine.Configuration.{lookup_of};
 ghost use Rattle.iocm_model.specs.Change.Edit.{same_view};
 ghost use Rattle.iocm_plan.specs.Effects as meaning;
+ghost use Rattle.iocm_plan.specs.Left.{no_effect};
 ghost use Rattle.iocm_plan.specs.Routes.{has_one_route};
 ghost use Rattle.iocm_plan.specs.Seen.{on};
 ghost use Rattle.iocm_plan.specs.Sides.{side_of};
@@ -187,8 +188,15 @@ pub fn effect_between(before: &Option<Side<'_>>, after: &Option<Side<'_>>) -> Ef
         (Some(before), Some(after)) => effect_on(before, after),
         (Some(before), None) => seen_alone(before.view, None),
         (None, Some(after)) => seen_alone(None, after.view),
-        (None, None) => seen_alone(None, None),
+        (None, None) => no_effect(),
     }
+}
+
+/// Where nothing is seen before and after.
+pub fn no_effect() -> Effect
+    ensures { result ≡ no_effect }
+{
+    seen_alone(None, None)
 }
 
 /// Where the image and the device are there before alone, or after alone, or neither, no path stays online.

@@ -2,7 +2,9 @@
 ghost use Rattle.iocm_plan.specs.Examples.{WordsAreAsWorked};
 ghost use Rattle.iocm_plan.specs.MoreExamples.{ObjectsAreAsWorked, RunsAreAsWorked, after, before};
 ghost use Rattle.iocm_plan.specs.Laws.{NoObjectDiffers, ObjectsGoBack, PlanGoesBack, PlanOfItself, SeenIsTheView};
+ghost use Rattle.iocm_plan.specs.LeftExamples.{LeftIsAsWorked};
 ghost use Rattle.iocm_plan.specs.ToldAlike.{AlikeAreToldAlike, RunsAreTheDevices, RunsAreToldAlike};
+ghost use Rattle.iocm_plan.specs.ToldAlike.{WithoutFiltersAllIsTold};
 
 /// A plan of a configuration and itself tells nothing: nothing is gone, has come, is changed, lost, interrupted or
 /// may go off and on, and no object differs.
@@ -20,9 +22,11 @@ pub fn the_plan_goes_back()
     ensures objects { ObjectsGoBack }
 {}
 
-/// At small changes the words of plans hold, objects differ and devices are in runs as they are worked by hand.
+/// At small changes the words of plans hold, filters leave of them, objects differ and devices are in runs as they
+/// are worked by hand.
 pub fn words_are_as_worked()
     ensures words { WordsAreAsWorked }
+    ensures left { LeftIsAsWorked }
     ensures objects { ObjectsAreAsWorked before after }
     ensures runs { RunsAreAsWorked before after }
 {}
@@ -44,7 +48,13 @@ pub fn alike_are_told_alike()
     ensures runs { RunsAreToldAlike }
 {}
 
-/// The devices of the runs, one by one, are those of both configurations.
+/// The devices of the runs, one by one, are those of both configurations that are asked for.
 pub fn runs_are_the_devices()
     ensures { RunsAreTheDevices }
+{}
+
+/// Without filters what is left of what a change does to an image and a device is what it does to them.
+#[tactic(auto, using(crate::proofs::Unfiltered::without_filters))]
+pub fn without_filters_all_is_told()
+    ensures { WithoutFiltersAllIsTold }
 {}

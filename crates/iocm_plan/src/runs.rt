@@ -1,13 +1,14 @@
-ghost use Rattle.std.specs.Prelude.{◌≡◌, ◌+◌, ◌==◌, ◌++◌, IfOk, OnOk};
+ghost use Rattle.std.specs.Prelude.{◌≡◌, ◌+◌, ◌==◌, ◌++◌, ◌<◌, ◌^◌, sum_by, IfOk, OnOk};
 ghost use Rattle.std.specs.Option.{option_copied, option_eq, option_map};
 ghost use Rattle.iocm_record.specs.Meaning.{device_of};
 ghost use Rattle.iocm_plan.specs.Runs as meaning;
 
-use crate::both::devices_of_both;
+use crate::both::devices_asked;
 use crate::route::is_one_device;
 use iocm_config::Config;
 use iocm_derive::DeviceWalk;
 use iocm_difference::are_same_candidates;
+use iocm_filter::Filters;
 use iocm_record::DeviceFields;
 use iocm_sight::DeviceKey;
 use iocm_types::DevNo;
@@ -22,16 +23,36 @@ pub struct DeviceRun {
     pub count: usize,
 }
 
-/// The runs of all devices of two configurations, in the order of keys. The time is that of one walk over both, and
-/// of looking each device up.
+/// The runs of the devices of two configurations that are in a range that filters ask for, in the order of keys. The
+/// time is that of one walk over both, and of looking each device up.
 ///
 /// `AllocError` (M1): memory ran out.
-pub fn runs_of_both(alloc: Global, old: &Config, new: &Config) -> Result<Vec<DeviceRun>, AllocError>
-    ensures { IfOk result (λ runs. runs.items ≡ meaning.runs old.now.records new.now.records) }
+pub fn runs_asked(
+    alloc: Global,
+    filters: &Filters,
+    old: &Config,
+    new: &Config,
+) -> Result<Vec<DeviceRun>, AllocError>
+    ensures runs { IfOk result
+        (λ runs. runs.items ≡ meaning.runs_asked filters.now old.now.records new.now.records) }
+    ensures few { IfOk result (λ runs. sum_by (λ r. r.count) runs.items < 2 ^ 64) }
 {
-    let devices = devices_of_both(alloc, old, new)?;
+    let devices = devices_asked(alloc, filters, old, new)?;
+    let runs = runs_among(alloc, old, new, &devices)?;
+    Ok(runs)
+}
+
+/// The runs of devices that stand in the order of keys.
+fn runs_among(
+    alloc: Global,
+    old: &Config,
+    new: &Config,
+    devices: &[DeviceKey],
+) -> Result<Vec<DeviceRun>, AllocError>
+    ensures { IfOk result (λ runs. runs.items ≡ meaning.runs_among old.now.records new.now.records devices.now) }
+{
     let mut runs = Vec::new(alloc);
-    if let [first, others @ ..] = devices.as_slice() {
+    if let [first, others @ ..] = devices {
         put_runs(&mut runs, old, new, *first, others)?;
     }
     Ok(runs)
@@ -80,7 +101,7 @@ fn continues(
 }
 
 /// Whether a number is the next after so many others.
-fn is_after(first: DevNo, count: usize, number: DevNo) -> bool
+pub fn is_after(first: DevNo, count: usize, number: DevNo) -> bool
     ensures { result ≡ (number == first + count) }
 {
     let number = usize::from(number.number());
@@ -107,7 +128,7 @@ fn device_in<'a>(config: &'a Config, device: &DeviceKey) -> Option<&'a DeviceFie
 }
 
 /// Whether both hold, or neither.
-fn is_same_truth(one: bool, other: bool) -> bool
+pub fn is_same_truth(one: bool, other: bool) -> bool
     ensures { result ≡ meaning.same_truth one other }
 {
     if one { other } else { !other }

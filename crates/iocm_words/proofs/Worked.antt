@@ -8,6 +8,7 @@ unfolding digits padded_integral char_count
 words_as_worked = record {
   carried = refl;
   commas = refl;
+  counts = refl;
   path = refl;
   addresses = refl;
   devices = refl;

@@ -1,5 +1,6 @@
 -- Words and tables as they are written by hand.
 use Rattle.std.specs.Prelude.{◌≡◌, ℕ, Option, None, Some, List, [], ◌∷◌, ◌++◌, map, codes}
+use Rattle.std.specs.Fmt.{decimal}
 use Rattle.std.specs.List.{flat_map}
 use Rattle.iocm_types.specs.declared.link.Link.{Link}
 use Rattle.iocm_types.specs.declared.link.Link.TheVariants.{Long}
@@ -11,7 +12,7 @@ use Rattle.iocm_words.specs.Images.{images_word, all_images_word}
 use Rattle.iocm_words.specs.Paths.{paths_word}
 use Rattle.iocm_words.specs.Ranges.{range_word, devices_word, set_word}
 use Rattle.iocm_words.specs.Table.{TableColumn, table_text}
-use Rattle.iocm_words.specs.Words.{carried_word, comma_word, path_word}
+use Rattle.iocm_words.specs.Words.{carried_word, comma_word, grouped, path_word}
 
 -- ---- tables
 
@@ -76,6 +77,8 @@ pub record WordsAreWritten : Type 0 where
   pub carried : map carried_word (Some (codes "3390B") ∷ Some (codes "OSA 2") ∷ Some [] ∷ None ∷ [])
       ≡ codes "3390B" ∷ codes "OSA_2" ∷ codes "-" ∷ codes "-" ∷ []
   pub commas : map comma_word ((codes "A01" ∷ codes "A02" ∷ []) ∷ [] ∷ []) ≡ codes "A01,A02" ∷ codes "-" ∷ []
+  pub counts : map grouped (map decimal (0 ∷ 999 ∷ 4352 ∷ 125968 ∷ 5400000 ∷ []))
+      ≡ codes "0" ∷ codes "999" ∷ codes "4,352" ∷ codes "125,968" ∷ codes "5,400,000" ∷ []
   pub path : path_word 0 0x40 ≡ codes "0.40"
   pub addresses : map range_word (record { start = 0; count = 256 } ∷ record { start = 0x1E; count = 1 } ∷ [])
       ≡ codes "00-FF" ∷ codes "1E" ∷ []

@@ -8,8 +8,10 @@ use std::alloc::{AllocError, Global};
 
 /// A word, and the text of the group in which it is told.
 #[derive(Drop)]
-pub(crate) struct Member {
+pub struct Member {
+    /// The word, as the number of a channel subsystem.
     pub word: Text,
+    /// What is told of the word, and once of all words of which it is told.
     pub group: Text,
 }
 
@@ -19,8 +21,9 @@ fn is_among(groups: &[Text], group: &Text) -> bool
     groups.iter().any(|other| *other == *group)
 }
 
-/// The groups of some words, each once, in the order of their first words.
-pub(crate) fn groups_of(alloc: Global, members: &[Member]) -> Result<Vec<Text>, AllocError>
+/// The groups of some words, each once, in the order of their first words. Answers the lack of
+/// memory alone.
+pub fn groups_of(alloc: Global, members: &[Member]) -> Result<Vec<Text>, AllocError>
     ensures { IfOk result (λ groups. groups.items ≡ meaning.groups_of members.now) }
 {
     let mut groups = Vec::new(alloc);
@@ -46,12 +49,8 @@ fn words_in(alloc: Global, members: &[Member], group: &Text) -> Result<Vec<Text>
     Ok(words)
 }
 
-/// The words of a group with commas between them.
-pub(crate) fn group_words(
-    alloc: Global,
-    members: &[Member],
-    group: &Text,
-) -> Result<Text, AllocError>
+/// The words of a group with commas between them. Answers the lack of memory alone.
+pub fn group_words(alloc: Global, members: &[Member], group: &Text) -> Result<Text, AllocError>
     ensures { IfOk result (λ text. text ≡ join_with_byte 44 (meaning.words_in members.now group.now)) }
 {
     let words = words_in(alloc, members, group)?;

@@ -71,8 +71,8 @@ fn measures(
     Ok(measures)
 }
 
-/// Puts so many blanks behind a text.
-fn put_blanks(text: &mut Vec<u8>, count: usize) -> Result<(), AllocError>
+/// Puts so many blanks behind a text. Answers the lack of memory alone.
+pub fn put_blanks(text: &mut Vec<u8>, count: usize) -> Result<(), AllocError>
     ensures { OnOk result (text.new.items ≡ text.old.items ++ replicate count 32) }
 {
     for _ in 0..count {
@@ -112,7 +112,7 @@ fn cells_text(alloc: Global, measures: &[Measure], row: &[Vec<u8>]) -> Result<Ve
 }
 
 /// A line without the blanks at its end.
-fn without_blanks_behind(line: &[u8]) -> &[u8]
+pub fn without_blanks_behind(line: &[u8]) -> &[u8]
     ensures { result.now ≡ meaning.without_blanks_behind line.now }
 {
     let mut end = line.len();

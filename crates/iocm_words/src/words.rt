@@ -1,4 +1,4 @@
-ghost use Rattle.std.specs.Prelude.{◌≡◌, ◌++◌, map, IfOk, OnOk};
+ghost use Rattle.std.specs.Prelude.{◌≡◌, ◌∷◌, ◌++◌, map, IfOk, OnOk};
 ghost use Rattle.std.specs.Fmt.{decimal};
 ghost use Rattle.std.specs.List.{join_with_byte};
 ghost use Rattle.std.specs.Option.{option_map};
@@ -37,8 +37,8 @@ pub fn carried_word(alloc: Global, text: Option<&[u8]>) -> Result<Vec<u8>, Alloc
     text.iter().map(|byte| underlined(*byte)).collect(alloc)
 }
 
-/// Puts words behind a text, with a byte between them.
-fn put_joined(text: &mut Vec<u8>, words: &[Text], byte: u8) -> Result<(), AllocError>
+/// Puts words behind a text, with a byte between them. Answers the lack of memory alone.
+pub fn put_joined(text: &mut Vec<u8>, words: &[Text], byte: u8) -> Result<(), AllocError>
     ensures { OnOk result (text.new.items ≡ text.old.items ++ join_with_byte byte words.now) }
 {
     for (place, word) in words.iter().enumerate() {
@@ -50,8 +50,8 @@ fn put_joined(text: &mut Vec<u8>, words: &[Text], byte: u8) -> Result<(), AllocE
     Ok(())
 }
 
-/// Words with a byte between them; `-` if there are none.
-pub(crate) fn joined_word(alloc: Global, words: &[Text], byte: u8) -> Result<Vec<u8>, AllocError>
+/// Words with a byte between them; `-` if there are none. Answers the lack of memory alone.
+pub fn joined_word(alloc: Global, words: &[Text], byte: u8) -> Result<Vec<u8>, AllocError>
     ensures { IfOk result (λ word. word.items ≡ meaning.joined_word byte words.now) }
 {
     if words.is_empty() {
@@ -76,6 +76,37 @@ pub fn count_word(alloc: Global, count: u64) -> Result<Vec<u8>, AllocError>
 {
     let text = format!(in alloc; "{count}")?;
     Ok(text.into_bytes())
+}
+
+/// Puts a digit behind others, and a comma behind it if groups of three are left.
+fn put_digit(word: &mut Vec<u8>, digit: u8, left: usize) -> Result<(), AllocError>
+    ensures { OnOk result (word.new.items ≡ word.old.items ++ (digit ∷ meaning.comma_before left)) }
+{
+    word.push(digit)?;
+    if left > 0 && left % 3 == 0 {
+        word.push(b',')?;
+    }
+    Ok(())
+}
+
+/// A count in decimal, with commas between groups of three digits, as `4,352`. Answers the lack of
+/// memory alone.
+pub fn grouped_word(alloc: Global, count: u64) -> Result<Vec<u8>, AllocError>
+    ensures { IfOk result (λ word. word.items ≡ meaning.grouped (decimal count)) }
+{
+    let digits = count_word(alloc, count)?;
+    grouped_digits(alloc, &digits)
+}
+
+/// Digits with commas between groups of three.
+fn grouped_digits(alloc: Global, digits: &[u8]) -> Result<Vec<u8>, AllocError>
+    ensures { IfOk result (λ word. word.items ≡ meaning.grouped digits.now) }
+{
+    let mut word = Vec::new(alloc);
+    for (place, digit) in digits.iter().enumerate() {
+        put_digit(&mut word, *digit, digits.len() - place - 1)?;
+    }
+    Ok(word)
 }
 
 /// A channel path with its channel subsystem, as `0.40`. Answers the lack of memory alone.

@@ -1,0 +1,4 @@
+pub mod Examples
+pub mod Listed
+pub mod RowText
+pub mod Texts

@@ -1,0 +1,5 @@
+pub mod KeysThatDiffer
+pub mod MoreWorked
+pub mod Onlines
+pub mod RunObjects
+pub mod Worked

@@ -1,0 +1,15 @@
+pub mod Carried
+pub mod Counts
+pub mod Differing
+pub mod Examples
+pub mod Fields
+pub mod Laws
+pub mod Lines
+pub mod MoreExamples
+pub mod Objects
+pub mod OnlineKeys
+pub mod Paths
+pub mod Runs
+pub mod Told
+pub mod ToldPaths
+pub mod Values

@@ -1,0 +1,4 @@
+mod Grown
+mod HaveReasons
+mod InPlace
+mod Worked

@@ -1,0 +1,6 @@
+mod Few
+mod Leading
+mod Placed
+mod ToldReasons
+mod Whole
+mod Worked

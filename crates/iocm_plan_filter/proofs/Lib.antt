@@ -1,0 +1,4 @@
+pub mod KeysPut
+pub mod Sights
+pub mod Unfiltered
+pub mod Worked

@@ -1,0 +1,5 @@
+pub mod Connected
+pub mod Examples
+pub mod Laws
+pub mod Left
+pub mod Lost
