@@ -120,7 +120,7 @@ def proves_first(room):
     note, program = os.path.join(room, "out", "gate.tsv"), os.path.join(room, "left")
     proves = script(room, "proves", f"echo '#!/bin/sh' >{program}; echo '{counts}' >>{program}; {counts}")
     alone, beside = Part("proofs", proves, "some: ", "proofs"), Part("cases", "sh {program}", "some: ", "cases")
-    given = {"ALONE": (alone,), "SIDE_BY_SIDE": (beside,), "PROVED": program, "NOTE": note}
+    given = {"ALONE": (alone,), "SIDE_BY_SIDE": (beside,), "PROVED": program, "NOTE": note, "pace": lambda _lanes: 1}
     found, said = [], io.StringIO()
     for budget in (240, -1):
         with mock.patch.multiple(proved, BUDGET=budget, **given), contextlib.redirect_stdout(said):
@@ -132,10 +132,18 @@ def proves_first(room):
     return (found, kinds) == ([(2, 0), (2, 1)], ["proofs", "cases", "sum"]) or (found, kinds, said.getvalue())
 
 
+def tells_minutes_at_a_pace(_room):
+    """On a processor that takes twice as long they are half as many."""
+    found = [running.Result(Part("p", "", "", kind), 1, 0, 0, 120, "") for kind in ("proofs", "cases", "proofs")]
+    got = proved.minutes_of(found, 2)
+    return got == {"proofs": 2, "cases": 1} or got
+
+
 def fails_without_a_program(room):
     """The count of what was proved stays."""
     alone = Part("proofs", script(room, "proves", "echo some: 7 passed, 2 failed"), "some: ", "proofs")
-    given = {"ALONE": (alone,), "PROVED": os.path.join(room, "none"), "NOTE": os.path.join(room, "out", "gate.tsv")}
+    note = os.path.join(room, "out", "gate.tsv")
+    given = {"ALONE": (alone,), "PROVED": os.path.join(room, "none"), "NOTE": note, "pace": lambda _lanes: 1}
     with mock.patch.multiple(proved, **given), contextlib.redirect_stdout(io.StringIO()):
         got = proved.run(room, 2)
     return got == (7, 3) or got
@@ -150,6 +158,7 @@ TRIALS = (
     counts_processor_time,
     gives_each_part_the_program,
     proves_first,
+    tells_minutes_at_a_pace,
     fails_without_a_program,
 )
 
