@@ -1,9 +1,11 @@
 # bash completion for iocm: commands, the options of each, numbers of refusals, and files where one more is due
 _iocm() {
     local word=${COMP_WORDS[COMP_CWORD]} before=${COMP_WORDS[COMP_CWORD - 1]}
-    local commands="check show list write diff vary apply run explain help"
-    local filters="--image --device --unit --path --paths-online"
-    local reports="--altered --count --deck --test --undo"
+    local commands="check show list write diff plan vary apply run explain help"
+    local connected="--image --device --unit --path"
+    local filters="$connected --paths-online"
+    local scope="--brief --exit-code --lost"
+    local reports="--altered --count --deck --plan --test --undo"
     local command="" files=0 most=1 options="--help" place is_value=""
     COMPREPLY=()
     for ((place = 1; place < COMP_CWORD; place++)); do
@@ -32,12 +34,13 @@ _iocm() {
             ((files == 0)) && [[ $word != -* ]] && options="images paths units devices" most=0
             ;;
         write) options+=" --quiet --json" ;;
-        diff) options+=" --quiet --json --old" most=2 ;;
+        diff) options+=" --quiet --json --old --exit-code" most=2 ;;
+        plan) options+=" --quiet $scope $connected" most=2 ;;
         vary)
             options+=" --quiet --image"
             ((files == 1)) && options="offline online" most=0
             ;;
-        apply) options+=" --quiet --json --heap $reports $filters" most=2 ;;
+        apply) options+=" --quiet --json --heap $reports $scope $filters" most=2 ;;
         run) options+=" --quiet --json --heap" most=9999 ;;
         explain) options+=" $(iocm explain 2>/dev/null | cut -d: -f1)" most=0 ;;
         help) options=$commands most=0 ;;

@@ -5,10 +5,11 @@ from .canonical import remarks, written
 from .cases import LARGEST_HEAP
 from .filters import try_filter
 from .places import place_in_change
+from .planned import try_plan_of_change
 from .readings import apply_change, edits_of, online_key, read_deck, records_of
 from .shapes import HEADING, rows_of
 
-REPORTS = ("--test", "--count", "--altered", "--deck", "--undo")
+REPORTS = ("--test", "--count", "--altered", "--deck", "--plan", "--undo")
 FEW_NODES = 40  # the default heap has room for more
 NO_MEMORY = "refused M1"
 REMARK = re.compile(r"\* path (\S+) (is|isn't) online to (\S+)")
@@ -67,6 +68,8 @@ def try_reports(case, deck, applied, lines, heap):
     case.agree("test", case.run(*words, "--test").out.decode(), lines[0] + "\n")
     if case.dice.random() < 0.1:
         try_filter(case, words, lines[:2], lines[2:], applied.after.records)
+    if case.dice.random() < 0.3:
+        try_plan_of_change(case, deck.state.records, applied.after.records, words[1:])
     for part in case.dice.sample((try_rows, try_deck_after, try_way_back, try_undo), 2):
         part(case, deck, applied, lines, words)
 

@@ -2,6 +2,7 @@
 import re
 
 from .cases import LARGEST_HEAP
+from .planned import try_plan
 from .readings import apply_change, differing_keys, edits_of, read_deck
 
 MOST_EDITS = 4096
@@ -23,6 +24,7 @@ def try_pair(case, old_data, new_data):
     if answer.status == 0 and len(keys) <= MOST_EDITS:
         try_edits(case, answer.out, old, new, keys)
         try_loop(case, answer.out, old)
+    try_plan(case, old.state.records, new.state.records)
     if case.dice.random() < 0.3:
         commented = case.run("diff", "old", "new", "--old").out.splitlines(keepends=True)
         case.agree("old in comments", b"".join(line for line in commented if not line.startswith(b"*")), answer.out)

@@ -5,7 +5,7 @@ from .listed_lines import table_of
 from .shapes import HEADING
 
 COMMANDS = ("check", "show", "list", "apply")
-NOT_IN_LINES = ("--deck", "--undo")
+NOT_IN_LINES = ("--deck", "--plan", "--undo")
 HOW_OFTEN = 0.05
 MASKS = (("pim", "installed"), ("pam", "available"))
 

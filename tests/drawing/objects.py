@@ -139,14 +139,19 @@ def told_alone(fields):
             if name != "access" or value != values["online"]:
                 yield name, f"{name} {','.join(value) or 'none'}"
         else:
-            yield name, f"{name} {paths_text(value) if name == 'PATH' else value}"
+            yield name, f"{name} {paths_text(value) if is_paths(name, value) else value}"
+
+
+def is_paths(name, value):
+    """Whether these are paths, and not the text of a carried operand PATH."""
+    return name == "PATH" and not isinstance(value, str)
 
 
 def told_change(key, before, after):
     """First the fields of before, then those that came."""
     for name in [*before, *(name for name in after if name not in before)]:
         old, new = before.get(name), after.get(name)
-        if name == "PATH":
+        if is_paths(name, old or new):
             yield from told_paths(old, new)
         elif old == new or name == "access" and old == before["online"] and new == after["online"]:
             continue

@@ -16,7 +16,7 @@ MARKS = (("lost", "lost"), ("interrupted", "interrupted"), ("onepath", "one path
 KINDS = {IMAGE: "image", LIMIT: "limit", PATH: "path", UNIT: "control unit", DEVICE: "device"}
 CHANGES = (("add", "added"), ("delete", "deleted"), ("change", "changed"))
 OFF_AND_ON = "On a real machine these may go off and on again, which no mask shows:"
-MOST_EDITS, MOST_LISTED = 4096, 8
+MOST_EDITS, MOST_LISTED, TELLS = 4096, 8, 4
 
 
 class Plan(NamedTuple):
@@ -43,11 +43,21 @@ class Plan(NamedTuple):
 
 
 def try_plan(case, old, new):
-    """Tries the plan of two decks that were accepted and put, with filters."""
-    asked, is_lost = drawn_filters(case.dice, {**old, **new}), case.dice.random() < 0.2
-    words = [*asked.options(), *(["--lost"] if is_lost else [])]
+    """Tries the plan of two decks that were accepted and put, with filters; and that of one deck and itself."""
+    asked, is_lost, is_brief = drawn_filters(case.dice, {**old, **new}), *(case.dice.random() < 0.2 for _ in "lb")
+    words = [*asked.options(), *(["--lost"] if is_lost else []), *(["--brief"] if is_brief else [])]
     printed = case.run("plan", "old", "new", *words).out.decode("latin-1")
-    case.agree("plan", printed, plan_text(plan_of(old, new, asked, is_lost)))
+    plan = plan_of(old, new, asked, is_lost)
+    case.agree("plan", printed, plan_text(plan, is_brief))
+    told = case.run_only("plan", "old", "new", *words, "--exit-code")
+    case.agree("told", told.status, TELLS if plan.objects or plan.affected else 0)
+    case.agree("plan of itself", case.run("plan", "new", "new", "--brief").out, b"Plan: nothing differs.\n")
+
+
+def try_plan_of_change(case, old, new, words):
+    """Tries `apply --plan` of a change that was made."""
+    printed = case.run("apply", *words, "--plan").out.decode("latin-1")
+    case.agree("plan of change", printed, plan_text(plan_of(old, new), is_of_decks=False))
 
 
 def plan_of(old, new, asked=Asked(), is_lost=False):

@@ -20,7 +20,7 @@ REFUSED = {
     "apply": rf"refused (?:{OF_TEXT}|{OF_DECK}|{OF_NODE}|{OF_EDIT}|M1)",
     "run": rf"refused (?:{OF_TEXT}|{OF_DECK}|M1)",
 }
-REFUSED |= {command: REFUSED["check"] for command in ("show", "list", "write", "diff", "vary")}
+REFUSED |= {command: REFUSED["check"] for command in ("show", "list", "write", "diff", "plan", "vary")}
 REFUSED = {command: re.compile(text + "\n") for command, text in REFUSED.items()}
 # answers of operators: a change of the script is refused by its node, an undo by a change or a subchannel
 OF_CALL = rf"refused (?:{OF_NODE}|{OF_EDIT}|B1(?:{NODE})? subchannel {SUBCHANNEL}|J[13]|J2 change \d+|O[12]|M1)"
@@ -40,6 +40,7 @@ LIVED = rf"\* subchannel {SUBCHANNEL} had lpm [0-9A-F]{{2}} ena [01] parm [0-9A-
 ALTERED = rf"(?:[-+=] {ROW}|= [0-5]   [1-9A-F]  [0-3]   [0-9A-F]{{4}})\n"
 COUNTS = r"image [0-5]\.[1-9A-F] gone \d+ came \d+ changed \d+ same \d+\n"
 HEAD = r"change 1 altered \d+\n"
+PLAN = r"(?:[ -~]*\n)*Plan(?:, as filtered)?: (?:nothing[ a-z]*\.\n|add [ -~]*\.\nImages: [ -~]*\.\n)"
 DONE = {
     "check": r"accepted \d+\n",
     "show": TABLE,
@@ -47,8 +48,10 @@ DONE = {
     "write": rf"(?:{DECK_LINE})*",
     "diff": rf"(?:{CHANGE_LINE})*",
     "diff --old": rf"(?:{CHANGE_LINE}|\*[ -~]*\n)*",
+    "plan": PLAN,
     "vary": rf"(?:{CHANGE_LINE})*",
     "apply": HEAD + TABLE,
+    "apply --plan": PLAN,
     "apply --test": HEAD,
     "apply --count": rf"{HEAD}(?:{COUNTS})*",
     "apply --altered": rf"{HEAD}  {HEADING}\n(?:{ALTERED})*",
@@ -59,7 +62,7 @@ DONE = {
 DONE = {command: re.compile(text) for command, text in DONE.items()}
 # V4 is the first breach of no deck, but a deck may break it beside V3
 BREACHES = re.compile(rf"(?:refused (?:{OF_DECK}|V4 {ONLINE})\n)+")
-REPORTS = ("--test", "--count", "--altered", "--deck", "--undo", "--old")
+REPORTS = ("--test", "--count", "--altered", "--deck", "--plan", "--undo", "--old")
 
 
 # what standard error says beside what was done
@@ -68,6 +71,7 @@ BESIDE = {
     "diff": r"(no|\d+) edits?\b.*\n",
     "show": r"(note: there is no .*\n)*",
     "list": r"(note: there is no .*\n)*",
+    "plan": r"(note: there is no .*\n)*",
     "vary": r"(note: there is no .*\n)*",
 }
 

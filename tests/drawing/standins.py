@@ -58,7 +58,7 @@ def says(pattern):
 
 
 EMPTY_RUN = b"trace 0\nCSS IM SET SUBC DEVN PIM PAM CHPIDS\n"
-REPORTS = ("--test", "--count", "--altered", "--deck", "--undo")
+REPORTS = ("--test", "--count", "--altered", "--deck", "--plan", "--undo")
 
 
 # how they are spoiled
@@ -210,6 +210,11 @@ STAND_INS = (
     StandIn("loop", kinds.pair, of("apply", "--deck"), lines(without_last)),
     StandIn("loop", kinds.pair, of("apply", "--deck"), printed(b"refused V5 node 0 unit 1000\n", 1)),
     StandIn("loop as read", kinds.pair, of("apply", "--deck"), printed(b"refused V13 node 0 device 0.1000\n", 1)),
+    StandIn("plan", kinds.pair, of("plan"), next_number(rb" gone, ")),
+    StandIn("plan", kinds.pair, of("plan"), text(rb"(?m)^[-+~] .*\n", rb"")),
+    StandIn("plan of change", kinds.right_change, of("--plan"), next_number(rb" came, ")),
+    StandIn("plan of itself", kinds.pair, of("plan", "--brief"), text(rb"nothing differs", rb"nothing")),
+    StandIn("told", kinds.pair, lambda answer: answer.words[0] == "plan" and answer.status == 4, with_status(0)),
     StandIn("old in comments", kinds.pair, of("diff", "--old"), text(rb"(?m)^(ADD|DELETE|MODIFY) .*\n", rb"")),
     StandIn("script refused", kinds.faulty_script, refused("run"), next_number(rb"refused K\d line ")),
     StandIn("script refused", kinds.faulty_script, refused("run"), printed(EMPTY_RUN, 0)),

@@ -1,13 +1,14 @@
 """The table of marked promises in docs/PROMISES.md: `text()`.
 
-A function is in it if its comment has a line `Promise: ..`. The names of its clauses are those of its `ensures`. A
+A function is in it if its comment has a line `Promise: ..`, which may go on in the next lines. The names of its clauses are those of its `ensures`. A
 clause without a name is the function's only one.
 """
 import re
 
 from . import tree
 
-MARK = re.compile(r"^ *///[ ]Promise: (.*)$", re.M)
+MARK = re.compile(r"^ *///[ ]Promise: (.*(?:\n *///[ ]\S.*)*)$", re.M)
+GOES_ON = re.compile(r"\n *///[ ]")
 FUNCTION = re.compile(r"(?:\n *(?:///|#\[).*)*\n *(?:pub(?:\([a-z]+\))? )?fn (\w+)")
 ENSURES = re.compile(r"^ +ensures(?: (?:ok|err))?(?: (\w+))? \{", re.M)
 BODY = re.compile(r"^ *\{(?:\}|$)", re.M)
@@ -19,13 +20,13 @@ def promises_in(text):
     The function is empty if the comment is that of something else.
     """
     for mark in MARK.finditer(text):
-        function = FUNCTION.match(text, mark.end())
+        said, function = GOES_ON.sub(" ", mark.group(1)), FUNCTION.match(text, mark.end())
         if not function:
-            yield mark.group(1), "", []
+            yield said, "", []
             continue
         body = BODY.search(text, function.end())
         clauses = text[function.end() : body.start() if body else len(text)]
-        yield mark.group(1), function.group(1), [name for name in ENSURES.findall(clauses) if name]
+        yield said, function.group(1), [name for name in ENSURES.findall(clauses) if name]
 
 
 def of_crate(crate):

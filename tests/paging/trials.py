@@ -38,7 +38,8 @@ pub fn close(core: Core) -> Closed
     // ensures nothing { here }
 }
 
-/// Promise: it is a law.
+/// Promise: it is a law
+/// of two lines.
 pub fn a_law()
     ensures all { All }
 {}
@@ -87,7 +88,7 @@ DEFINED = [
 ]
 PROMISED = [
     ("nothing is lost.", "close", ["state", "made"]),
-    ("it is a law.", "a_law", ["all"]),
+    ("it is a law of two lines.", "a_law", ["all"]),
     ("of a type.", "", []),
 ]
 OF_EACH = [("iocm_a", "A.antt"), ("iocm_a", "b/c.rt"), ("iocm_d", "D/")]

@@ -5,8 +5,8 @@ ghost use Rattle.iocm_answer.specs.Commands.{HasDeck};
 
 use crate::failure::{Ended, Failure};
 use crate::telling::{
-    Talk, explain_unknown, note_missing, remark, remark_on_edits, remark_on_nothing,
-    remark_on_others, tell,
+    TELLS, Talk, explain_unknown, note_missing, note_missing_in_both, remark, remark_on_edits,
+    remark_on_nothing, remark_on_others, tell,
 };
 use crate::texts::{Role, Text, open_text, open_texts, read_text, read_texts, title_of_text};
 use iocm_answer::{Answer, Manner, begin, finish};
@@ -15,6 +15,7 @@ use iocm_console::Refusal;
 use iocm_explain::{Unexplained, explain};
 use iocm_lines::Form;
 use iocm_types::Rule;
+use std::process::ExitCode;
 use std::rt::Files;
 use std::sync::Wait;
 use std::thread::Threads;
@@ -30,6 +31,8 @@ pub struct Call<'c, 'a> {
     pub form: Form,
     /// What standard error is to say.
     pub talk: Talk,
+    /// Whether the exit status is to say that something is told.
+    pub exit_code: bool,
 }
 
 /// The texts of a call: that of the deck, and the bytes of those after it that were read.
@@ -84,7 +87,12 @@ fn answer_files<'a, R: Files + Input + Print + Eprint + AllocGlobal + Threads + 
     let others = read_texts(rt, names, files)?;
     if call.talk == Talk::All {
         if let (Some(filters), Some(config)) = (call.command.filters(), begun.config()) {
-            note_missing(rt, *name, filters, config);
+            match (names.first(), others.first()) {
+                (Some(new), Some(bytes)) => {
+                    note_missing_in_both(rt, *name, *new, filters, config, bytes);
+                }
+                _ => note_missing(rt, *name, filters, config),
+            }
         }
     }
     let said = finish(rt, rt.alloc(), call.form, call.command, begun, &others);
@@ -115,7 +123,10 @@ fn conclude<R: Print + Eprint + AllocGlobal>(
             Err(why) => remark_on_refusal(rt, call, texts, from, why),
         }
     }
-    ended
+    match said {
+        Ok(answer) if call.exit_code && answer.tells() => ended.with_code(ExitCode::from(TELLS)),
+        _ => ended,
+    }
 }
 
 /// Says what a deck has that is accepted, where the first breach comes from, or how many edits a
@@ -239,12 +250,12 @@ fn is_from_other<R: AllocGlobal>(
 /// What the text of this place is to a command: 0 is the deck.
 fn role_of(command: &Command<'_>, place: usize) -> Role {
     match command {
-        Command::Diff { .. } if place == 0 => Role::Old,
-        Command::Diff { .. } => Role::New,
+        Command::Diff { .. } | Command::Plan { .. } if place == 0 => Role::Old,
+        Command::Diff { .. } | Command::Plan { .. } => Role::New,
         _ if place == 0 => Role::Deck,
         Command::Run { changes, .. } if place == 1 => Role::Script(changes.len() as u64),
         Command::Run { .. } => Role::ChangeOf(place.saturating_sub(1) as u64),
-        Command::Apply { .. } => Role::Change,
+        Command::Apply { .. } | Command::PlanChange { .. } => Role::Change,
         _ => Role::Deck,
     }
 }

@@ -10,6 +10,16 @@ pub enum Ended {
     Unwritten(Option<ErrorKind>),
 }
 
+impl Ended {
+    /// The same with another exit status, if all is printed.
+    pub fn with_code(self, code: ExitCode) -> Ended {
+        match self {
+            Ended::Printed(_) => Ended::Printed(code),
+            Ended::Unwritten(kind) => Ended::Unwritten(kind),
+        }
+    }
+}
+
 /// Why a command has no answer: a text isn't there.
 #[derive(Clone, Copy)]
 pub enum Failure<'a> {

@@ -6,11 +6,11 @@ use crate::texts::{Text, title_of_text};
 use iocm_answer::{Answer, Manner, print};
 use iocm_columns::{Card, cards};
 use iocm_config::Config;
-use iocm_console::{About, Output, Refusal};
-use iocm_filter::{Filters, Note, image_names, missing};
+use iocm_console::{About, Output, Refusal, open_deck};
+use iocm_filter::{Asked, Filters, Note, image_names, missing};
 use iocm_lines::Form;
 use iocm_origin::{Origin, Remark, all_faults, line_of};
-use iocm_types::{Fault, Rule};
+use iocm_types::{Fault, Name, Rule};
 use std::io::{BufWriter, ErrorKind};
 use std::process::ExitCode;
 use std::{io, str};
@@ -20,6 +20,9 @@ pub const USAGE: u8 = 2;
 
 /// The exit status after a fault of a device.
 const FAULT: u8 = 3;
+
+/// The exit status of `--exit-code` if something is told.
+pub const TELLS: u8 = 4;
 
 /// How many edits a change deck may have.
 const MOST_EDITS: usize = 4096;
@@ -183,13 +186,53 @@ pub fn note_missing<R: Eprint + AllocGlobal>(
         return;
     };
     for asked in &found {
-        let note = Note {
-            asked: *asked,
-            deck: title_of_text(name),
-            images: &images,
-        };
-        let _ = eprintln!(rt; "{note}");
+        note(rt, *asked, title_of_text(name), &images);
     }
+}
+
+/// Says the same of what isn't in either of two decks.
+pub fn note_missing_in_both<R: Eprint + AllocGlobal>(
+    rt: &R,
+    old: &str,
+    new: &str,
+    filters: &Filters,
+    opened: &Config,
+    bytes: &[u8],
+) {
+    let Ok(found) = missing(rt.alloc(), filters, opened) else {
+        return;
+    };
+    if found.is_empty() {
+        return;
+    }
+    let Ok(after) = open_deck(rt.alloc(), bytes) else {
+        return;
+    };
+    let Ok(missed) = missing(rt.alloc(), filters, &after) else {
+        return;
+    };
+    let (old, new) = (title_of_text(old), title_of_text(new));
+    let Ok(decks) = format!(in rt.alloc(); "{old} or {new}") else {
+        return;
+    };
+    let Ok(images) = image_names(rt.alloc(), opened) else {
+        return;
+    };
+    for asked in &found {
+        if missed.contains(asked) {
+            note(rt, *asked, &decks, &images);
+        }
+    }
+}
+
+/// Says of what is asked for that it isn't there, and which images there are.
+fn note<R: Eprint>(rt: &R, asked: Asked, deck: &str, images: &[Name]) {
+    let note = Note {
+        asked,
+        deck,
+        images,
+    };
+    let _ = eprintln!(rt; "{note}");
 }
 
 /// Says how many edits a difference has, or that they are too many.

@@ -1,6 +1,7 @@
 mod Again
 mod BeginsAs
 pub mod ChangesRead
+pub mod Copied
 pub mod Opened
 pub mod Reading
 pub mod RunTexts

@@ -1,20 +1,18 @@
 -- The refusal of a change that is due.
-use Rattle.std.proofs.Common.{◌≡◌, ◌⊎◌, Ok, Err, inl, inr, sym, ap}
+use Rattle.std.proofs.Common.{◌≡◌, ◌⊎◌, ℕ, List, Ok, Err, inl, inr, sym, ap}
 use Rattle.iocm_types.specs.declared.refused.Refused.{Refused}
-use Rattle.iocm_model.specs.Change.Meaning.{Outcome}
-use Rattle.iocm_model.specs.Operation.State.{State}
+use Rattle.iocm_model.specs.Change.Meaning.{Outcome, Performed}
 use Rattle.iocm_plant.specs.Refusing.{IsDue}
 use Rattle.iocm_activate.specs.Done.{refusal_in}
 use Rattle.iocm_console.specs.Refusal.{no_memory, of_change}
 use Rattle.iocm_answer.specs.declared.manner.Manner.{Manner}
 use Rattle.iocm_answer.specs.Manner.{refused}
-use Rattle.iocm_answer.specs.Commands.Apply.{made}
-use Rattle.iocm_answer.specs.Asked.{Question}
+use Rattle.iocm_answer.specs.Commands.Apply.{told_or_refused}
 
 -- the refusal of a change that is due, or lack of memory
-pub due_made : (m : Manner) (asked : Question) (s : State) (o : Outcome) (why : Refused) → IsDue (refusal_in o) why
-    → (refused m (of_change why) ≡ made m asked s o) ⊎ (of_change why ≡ no_memory)
-due_made m asked s o why (inr none) = inr (ap of_change none)
-due_made m asked s (Ok r) why (inl due) = cc
-due_made m asked s (Err e) why (inl due) =
+pub due_told : (m : Manner) (tell : Performed → List ℕ) (o : Outcome) (why : Refused) → IsDue (refusal_in o) why
+    → (refused m (of_change why) ≡ told_or_refused m tell o) ⊎ (of_change why ≡ no_memory)
+due_told m tell o why (inr none) = inr (ap of_change none)
+due_told m tell (Ok r) why (inl due) = cc
+due_told m tell (Err e) why (inl due) =
     let same : e ≡ why = cc in inl (ap (λ w. refused m (of_change w)) (sym same))

@@ -1,5 +1,5 @@
 -- What is printed of an answer in a manner, and how the command ends.
-use Rattle.std.specs.Prelude.{◌≡◌, ◌⊎◌, ℕ, List, ◌++◌, Result, Ok, Err}
+use Rattle.std.specs.Prelude.{◌≡◌, ◌==◌, ◌⊎◌, ℕ, Bool, false, not, List, ◌++◌, Result, Ok, Err}
 use Rattle.std.specs.List.{flat_map}
 use Rattle.iocm_types.specs.declared.fault.Fault.{Fault}
 use Rattle.iocm_model.specs.Rules.FirstBreach.{Breach}
@@ -37,6 +37,7 @@ shown m (answer.Faults fs) = record { text = fault_lines m fs.items; status = st
 shown m (answer.Table table) = done (text_in m.form table)
 shown m (answer.Text bytes) = done bytes.items
 shown m (answer.Difference d) = done d.text.items
+shown m (answer.Plan p) = done p.text.items
 shown m (answer.Changed altered table) = done (change_in m.form altered ++ text_in m.form table)
 shown m (answer.Altered a) = done (altered_in m.form a.altered a.rows)
 shown m (answer.Counted a) = done (counted_in m.form a.altered a.rows)
@@ -44,6 +45,12 @@ shown m (answer.Tried altered) = done (change_in m.form altered)
 shown m (answer.Ran r) =
     done (answer_lines m r.answers.items ++ (trace_in m.form r.calls ++ text_in m.form r.table))
 shown m (answer.Explained e) = done (told e.rules.items)
+
+-- whether something differs, of a difference and of a plan
+abbrev pub tells : Answer → Bool
+tells (answer.Difference d) = not (d.edits == 0)
+tells (answer.Plan p) = p.is_told
+tells _ = false
 
 -- what is printed of what a command gives: of its answer, or the refusal
 abbrev pub printed : Manner → Result Answer Refusal → Shown

@@ -1,8 +1,12 @@
+ghost use Rattle.std.specs.Prelude.{◌≡◌};
+ghost use Rattle.iocm_answer.specs.Answer as meaning;
+
 use crate::altered::Altered;
 use crate::census::Census;
 use iocm_console::Table;
 use iocm_explain::Explained;
 use iocm_operation::Answered;
+use iocm_plan_text::Plan;
 use iocm_rules::Breach;
 use iocm_types::Fault;
 
@@ -22,6 +26,8 @@ pub enum Answer<'f> {
     Text(Vec<u8>),
     /// The change deck of a difference.
     Difference(Difference),
+    /// The plan of two configurations.
+    Plan(Plan),
     /// How many subchannels a change altered, and the table afterwards.
     Changed(usize, Table<'f>),
     /// How many subchannels a change altered, and those that are asked for, before and afterwards.
@@ -34,6 +40,19 @@ pub enum Answer<'f> {
     Ran(Ran<'f>),
     /// The refusals that are explained.
     Explained(Explained),
+}
+
+impl<'f> Answer<'f> {
+    /// Whether something differs, of a difference and of a plan.
+    pub fn tells(&self) -> bool
+        ensures { result ≡ meaning.tells self.now }
+    {
+        match self {
+            Answer::Difference(difference) => difference.edits != 0,
+            Answer::Plan(plan) => plan.is_told,
+            _ => false,
+        }
+    }
 }
 
 /// A change deck that leads from one deck to another.

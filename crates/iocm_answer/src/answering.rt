@@ -1,17 +1,20 @@
 //! A command from the bytes of its texts to its answer: what its deck opens to, and what it gives of that
 //! and of the texts after it.
-ghost use Rattle.std.specs.Prelude.{◌≡◌, ◌⊎◌, ℕ, List, Option, IfErr, IfOk, map};
+ghost use Rattle.std.specs.Prelude.{◌≡◌, ◌⊎◌, ℕ, List, Ok, Option, IfErr, IfOk, map};
 ghost use Rattle.std.specs.Option.{option_map};
 ghost use Rattle.iocm_console.specs.Refusal.{no_memory};
 ghost use Rattle.iocm_answer.specs.declared.manner.Manner as manners;
 ghost use Rattle.iocm_answer.specs.Manner.{in_form, refused};
 ghost use Rattle.iocm_lines.specs.declared.refused.Input as inputs;
 ghost use Rattle.iocm_answer.specs.Commands as meaning;
-ghost use Rattle.iocm_answer.specs.Commands.{Counts, GoesOnFrom, HasDeck, IsMeant, OpensTo};
+ghost use Rattle.iocm_console.specs.Opening.{opened_deck};
+ghost use Rattle.iocm_answer.specs.Commands.{AsksOfDeck, Counts, GoesOnFrom, HasDeck, IsMeant, OpensTo};
+ghost use Rattle.iocm_answer.specs.declared.answering.Begun.TheVariants as begun;
 ghost use Rattle.iocm_answer.specs.Commands.Run.{ShowsOne};
 
 use crate::{
-    Answer, Asked, apply, check, check_all, diff, list, open_machine, run, show, vary, write,
+    Answer, Asked, apply, check, check_all, diff, list, open_machine, plan, plan_change, run, show,
+    vary, write,
 };
 use iocm_command::{Breaches, Command};
 use iocm_config::Config;
@@ -59,9 +62,9 @@ pub fn begin<'b>(alloc: Global, command: &Command<'_>, deck: &'b [u8]) -> Result
             breaches: Breaches::All,
             ..
         } => Ok(Begun::Text(deck)),
-        Command::Apply { .. } | Command::Run { .. } => Ok(Begun::Machine(open_machine(
-            alloc, deck,
-        )?)),
+        Command::Apply { .. } | Command::PlanChange { .. } | Command::Run { .. } => {
+            Ok(Begun::Machine(open_machine(alloc, deck)?))
+        }
         _ => Ok(Begun::Deck(open_deck(alloc, deck)?)),
     }
 }
@@ -85,41 +88,108 @@ pub fn finish<'f, T: Threads + Wait + Sync>(
     ensures counts { (deck : List ℕ) → OpensTo deck begun.entry
         → IfOk result (Counts command.entry.now deck (map (λ v. v.items) others.now)) }
 {
-    match (command, begun) {
-        (Command::Check { .. }, Begun::Deck(opened)) => Ok(check(&opened)),
-        (Command::Check { .. }, Begun::Text(deck)) => check_all(alloc, form, deck),
-        (Command::Show { filters, .. }, Begun::Deck(opened)) => show(alloc, opened, filters),
-        (
-            Command::List {
-                listed,
-                filters,
-                ..
-            },
-            Begun::Deck(opened),
-        ) => { list(alloc, form, *listed, filters, &opened) }
-        (Command::Write { .. }, Begun::Deck(opened)) => write(alloc, form, &opened),
-        (Command::Diff { before, .. }, Begun::Deck(old)) => {
-            diff(alloc, form, *before, &old, first_text(others))
+    match begun {
+        Begun::Deck(opened) => finish_deck(alloc, form, command, opened, others),
+        Begun::Machine(plant) => finish_machine(rt, alloc, form, command, plant, others),
+        Begun::Text(deck) => finish_text(alloc, form, command, deck),
+    }
+}
+
+/// What a command gives that goes on from the configuration of a deck.
+fn finish_deck<'f>(
+    alloc: Global,
+    form: Form,
+    command: &'f Command<'_>,
+    opened: Config,
+    others: &[Vec<u8>],
+) -> Result<Answer<'f>, Refusal>
+    requires { GoesOnFrom command.now (begun.Deck opened) }
+    ensures text { (input : Option inputs.Input) (deck : List ℕ) → OpensTo deck (begun.Deck opened)
+        → ShowsOne (in_form form input) result
+        (IsMeant (in_form form input) command.entry.now deck (map (λ v. v.items) others.now)) }
+    ensures counts { (deck : List ℕ) → OpensTo deck (begun.Deck opened)
+        → IfOk result (Counts command.entry.now deck (map (λ v. v.items) others.now)) }
+{
+    match command {
+        Command::Show { filters, .. } => show(alloc, opened, filters),
+        Command::Check { .. }
+        | Command::List { .. }
+        | Command::Write { .. }
+        | Command::Diff { .. }
+        | Command::Plan { .. }
+        | Command::Vary { .. } => ask_deck(alloc, form, command, &opened, others),
+        _ => unreachable!(),
+    }
+}
+
+/// What a command gives that looks at the configuration of a deck.
+fn ask_deck<'f>(
+    alloc: Global,
+    form: Form,
+    command: &'f Command<'_>,
+    opened: &Config,
+    others: &[Vec<u8>],
+) -> Result<Answer<'f>, Refusal>
+    requires { AsksOfDeck command.now }
+    ensures text { (input : Option inputs.Input) (deck : List ℕ) → opened_deck deck ≡ Ok opened.now.records
+        → ShowsOne (in_form form input) result
+        (IsMeant (in_form form input) command.entry.now deck (map (λ v. v.items) others.now)) }
+    ensures counts { (deck : List ℕ) → opened_deck deck ≡ Ok opened.now.records
+        → IfOk result (Counts command.entry.now deck (map (λ v. v.items) others.now)) }
+{
+    match command {
+        Command::Check { .. } => Ok(check(opened)),
+        Command::List {
+            listed,
+            filters,
+            ..
+        } => list(alloc, form, *listed, filters, opened),
+        Command::Write { .. } => write(alloc, form, opened),
+        Command::Diff { before, .. } => diff(alloc, form, *before, opened, first_text(others)),
+        Command::Plan { scope, filters, .. } => {
+            plan(alloc, *scope, filters, opened, first_text(others))
         }
-        (Command::Vary { to, filters, .. }, Begun::Deck(opened)) => {
-            vary(alloc, *to, filters, &opened)
-        }
-        (
-            Command::Apply {
-                heap,
-                report,
-                filters,
-                ..
-            },
-            Begun::Machine(plant),
-        ) => {
+        Command::Vary { to, filters, .. } => vary(alloc, *to, filters, opened),
+        _ => unreachable!(),
+    }
+}
+
+/// What a command gives that goes on from the machine of a deck.
+fn finish_machine<'f, T: Threads + Wait + Sync>(
+    rt: &T,
+    alloc: Global,
+    form: Form,
+    command: &'f Command<'_>,
+    plant: Plant,
+    others: &[Vec<u8>],
+) -> Result<Answer<'f>, Refusal>
+    requires { GoesOnFrom command.now (begun.Machine plant) }
+    ensures text { (input : Option inputs.Input) (deck : List ℕ) → OpensTo deck (begun.Machine plant)
+        → ShowsOne (in_form form input) result
+        (IsMeant (in_form form input) command.entry.now deck (map (λ v. v.items) others.now)) }
+    ensures counts { (deck : List ℕ) → OpensTo deck (begun.Machine plant)
+        → IfOk result (Counts command.entry.now deck (map (λ v. v.items) others.now)) }
+{
+    match command {
+        Command::Apply {
+            heap,
+            report,
+            filters,
+            ..
+        } => {
             let asked = Asked {
                 report: *report,
                 filters,
             };
             apply(alloc, form, *heap, &asked, plant, first_text(others))
         }
-        (Command::Run { heap, .. }, Begun::Machine(plant)) => {
+        Command::PlanChange {
+            heap,
+            scope,
+            filters,
+            ..
+        } => plan_change(alloc, *heap, *scope, filters, plant, first_text(others)),
+        Command::Run { heap, .. } => {
             run(
                 rt,
                 alloc,
@@ -129,6 +199,24 @@ pub fn finish<'f, T: Threads + Wait + Sync>(
                 later_texts(others),
             )
         }
+        _ => unreachable!(),
+    }
+}
+
+/// What a command gives that goes on from the bytes of a deck.
+fn finish_text<'f>(
+    alloc: Global,
+    form: Form,
+    command: &'f Command<'_>,
+    deck: &[u8],
+) -> Result<Answer<'f>, Refusal>
+    requires { GoesOnFrom command.now (begun.Text deck) }
+    ensures text { (input : Option inputs.Input) (others : List (List ℕ)) → ShowsOne (in_form form input) result
+        (IsMeant (in_form form input) command.entry.now deck.now others) }
+    ensures counts { (others : List (List ℕ)) → IfOk result (Counts command.entry.now deck.now others) }
+{
+    match command {
+        Command::Check { .. } => check_all(alloc, form, deck),
         _ => unreachable!(),
     }
 }

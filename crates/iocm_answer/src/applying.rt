@@ -8,6 +8,9 @@ ghost use Rattle.iocm_model.specs.Operation.State.{State};
 ghost use Rattle.iocm_tree.specs.Trees.{plain_tree, tree_of};
 ghost use Rattle.iocm_answer.specs.Answer.{shown, Shows};
 ghost use Rattle.iocm_answer.specs.Manner.{in_form};
+ghost use Rattle.iocm_answer.specs.declared.manner.Manner.{Manner};
+ghost use Rattle.iocm_command.specs.declared.report.Report.TheVariants as reports;
+ghost use Rattle.iocm_filter.specs.Wanted.{Wanted};
 ghost use Rattle.iocm_lines.specs.declared.refused.Input.{Input};
 ghost use Rattle.iocm_answer.specs.Commands.Apply as applying;
 ghost use Rattle.iocm_answer.specs.Making.{IsMadeBy};
@@ -16,13 +19,14 @@ ghost use Rattle.iocm_console.specs.Shown.{done};
 use crate::change::read_change;
 use crate::{Altered, Answer, Asked};
 use iocm_activate::{Made, make};
+use iocm_command::Report;
 use iocm_config::Config;
 use iocm_console::{Refusal, Table, read_config};
-use iocm_filter::Sieve;
+use iocm_filter::{Filters, Sieve};
 use iocm_lines::Form;
 use iocm_plant::Plant;
 use iocm_record_lines::record_lines;
-use iocm_reports::{Report, count_altered, deck_text, way_back};
+use iocm_reports::{count_altered, deck_text, way_back};
 use iocm_tree::Tree;
 use std::alloc::{AllocError, Global};
 
@@ -77,7 +81,15 @@ fn make_change<'f>(
     let before = Sieve::new(alloc, asked.filters, plant.config())?;
     let mut plant = plant;
     let made = make(alloc, &mut plant, tree)?;
-    Ok(report(alloc, form, asked, &before, &made, plant)?)
+    Ok(report(
+        alloc,
+        form,
+        asked.report,
+        asked.filters,
+        &before,
+        &made,
+        plant,
+    )?)
 }
 
 /// The report that is asked for, of a change that was made, with the sieve of the configuration
@@ -87,27 +99,63 @@ fn make_change<'f>(
 fn report<'f>(
     alloc: Global,
     form: Form,
-    asked: &Asked<'f>,
+    report: Report,
+    filters: &'f Filters,
     before: &Sieve<'_>,
     made: &Made,
     plant: Plant,
 ) -> Result<Answer<'f>, AllocError>
-    ensures { (input : Option Input) (es : List edit.Edit) (s : State) → IsSieveFor asked.now.wanted s.config before.now
+    ensures { (input : Option Input) (es : List edit.Edit) (s : State) → IsSieveFor filters.entry.now s.config before.now
         → IsMadeBy made.now es s → IfOk result (λ a. shown (in_form form input) a
-        ≡ done (applying.reported (in_form form input) asked.now.report asked.now.wanted es s plant.state)) }
+        ≡ done (applying.reported (in_form form input) report filters.entry.now es s plant.state)) }
+{
+    match report {
+        Report::Table => report_table(alloc, filters, made, plant),
+        _ => report_of(alloc, form, report, before, made, &plant),
+    }
+}
+
+/// How many subchannels a change altered, and the table afterwards.
+///
+/// `AllocError` (M1): memory ran out.
+fn report_table<'f>(
+    alloc: Global,
+    filters: &'f Filters,
+    made: &Made,
+    plant: Plant,
+) -> Result<Answer<'f>, AllocError>
+    ensures { (m : Manner) (es : List edit.Edit) (s : State) → IsMadeBy made.now es s
+        → IfOk result (λ a. shown m a ≡ done (applying.reported m reports.Table filters.entry.now es s plant.state)) }
+{
+    let altered = count_altered(alloc, made.performed.as_slice())?;
+    let table = Table::in_operation(alloc, plant, filters)?;
+    Ok(Answer::Changed(altered, table))
+}
+
+/// The report that is asked for, but the table.
+///
+/// `AllocError` (M1): memory ran out.
+fn report_of<'f>(
+    alloc: Global,
+    form: Form,
+    report: Report,
+    before: &Sieve<'_>,
+    made: &Made,
+    plant: &Plant,
+) -> Result<Answer<'f>, AllocError>
+    requires { applying.IsNoTable report }
+    ensures { (input : Option Input) (w : Wanted) (es : List edit.Edit) (s : State) → IsSieveFor w s.config before.now
+        → IsMadeBy made.now es s → IfOk result (λ a. shown (in_form form input) a
+        ≡ done (applying.reported (in_form form input) report w es s plant.now.state)) }
 {
     let performed = made.performed.as_slice();
-    match asked.report {
-        Report::Table => {
-            let altered = count_altered(alloc, performed)?;
-            let table = Table::in_operation(alloc, plant, asked.filters)?;
-            Ok(Answer::Changed(altered, table))
-        }
+    match report {
         Report::WayBack => Ok(Answer::Text(way_back(alloc, form, &made.inverse)?)),
-        Report::Altered => Ok(Answer::Altered(Altered::of(alloc, before, performed, &plant)?)),
-        Report::Count => Ok(Answer::Counted(Altered::of(alloc, before, performed, &plant)?)),
+        Report::Altered => Ok(Answer::Altered(Altered::of(alloc, before, performed, plant)?)),
+        Report::Count => Ok(Answer::Counted(Altered::of(alloc, before, performed, plant)?)),
         Report::Deck => Ok(Answer::Text(filed(alloc, form, plant.config())?)),
         Report::Test => Ok(Answer::Tried(count_altered(alloc, performed)?)),
+        Report::Table => unreachable!(),
     }
 }
 

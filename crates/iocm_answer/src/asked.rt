@@ -1,5 +1,5 @@
+use iocm_command::Report;
 use iocm_filter::Filters;
-use iocm_reports::Report;
 use std::marker::Model;
 
 /// A report, and of which subchannels. Contracts see what is asked for.

@@ -2,7 +2,7 @@
 //!
 //! A command is a function from the bytes of its texts to an `Answer`, or to the `Refusal` that says
 //! why there is none: `open_deck` of `iocm_console` or `open_machine` opens the first deck; then
-//! `check`, `show`, `write`, `diff`, `vary`, `apply` and `run` go on. `begin` and `finish` do this for a
+//! `check`, `show`, `list`, `write`, `diff`, `plan`, `vary`, `apply` and `run` go on. `begin` and `finish` do this for a
 //! command, whichever it is. `print` writes what they give, and is all that writes to standard
 //! output. `carry_out` is a whole command, from readers to a writer.
 //!
@@ -24,11 +24,13 @@ mod asked;
 mod census;
 mod change;
 mod checking;
+mod copying;
 mod differing;
 mod examples;
 mod laws;
 mod listing;
 mod manner;
+mod planning;
 mod printing;
 mod running;
 mod showing;
@@ -56,6 +58,7 @@ pub use laws::{
 };
 pub use listing::list;
 pub use manner::Manner;
+pub use planning::{plan, plan_change};
 pub use printing::print;
 pub use running::run;
 pub use showing::show;

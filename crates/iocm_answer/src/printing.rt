@@ -66,6 +66,7 @@ fn write_answer<W: Write + Drop>(
         Answer::Table(table) => write_table(form, table, output),
         Answer::Text(bytes) => output.bytes(bytes),
         Answer::Difference(difference) => output.bytes(&difference.text),
+        Answer::Plan(plan) => output.bytes(&plan.text),
         Answer::Changed(altered, table) => {
             write_change(form, *altered, output)?;
             write_table(form, table, output)

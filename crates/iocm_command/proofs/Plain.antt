@@ -8,14 +8,14 @@ use Rattle.clap.specs.Simple.{Shape, built_leaf}
 use Rattle.clap.specs.Walk.{nothing_held, walk_from}
 use Rattle.clap.specs.Words.{Text}
 use Rattle.clap.proofs.OnLiterals.{clap_on_literals}
-use Rattle.iocm_reports.specs.declared.report.Report.{Report}
-use Rattle.iocm_reports.specs.declared.report.Report.TheVariants.{Table, WayBack}
 use Rattle.iocm_filter.specs.Wanted.{nothing}
-use Rattle.iocm_lines.specs.declared.form.Form.TheVariants as form
 use Rattle.iocm_values.specs.Reading.{◌>>=◌, every}
 use Rattle.iocm_command.specs.CommandLine.{Stated, check, show, write, apply, IsSizeText}
 use Rattle.iocm_command.specs.Plain.{AppliesAreMeant, DecksAreMeant, IsPlainName, MeanApply, MeansApply, heap_meant}
+use Rattle.iocm_command.specs.Plain.{plainly}
 use Rattle.iocm_command.specs.Program.{apply_row, check_row, command_app, heap_parser, show_row, write_row}
+use Rattle.iocm_command.specs.declared.report.Report.{Report}
+use Rattle.iocm_command.specs.declared.report.Report.TheVariants.{Table, WayBack}
 use Rattle.iocm_command.specs.declared.table.Breaches.TheVariants.{First}
 use Rattle.iocm_command.proofs.PlainWalk.{ArePlain, Asks, Leaf, Said, is_read, option, plain, text_of}
 use Rattle.iocm_command.proofs.Reading.{size_found, size_passes}
@@ -77,7 +77,7 @@ module _ (program deck change : Text) (d : IsPlainName deck) (c : IsPlainName ch
   -- what is asked for by a size that is read
   abbrev asked : Report → Option ℕ → Option Stated
   asked report size = ((size >>= λ n. Some (Some n)) >>= λ heap. Some (apply deck change heap report nothing))
-      >>= λ command. Some (record { command = command; form = form.Text; quiet = false })
+      >>= λ command. Some (plainly command)
 
   all_mean : (size : Option Text) → IfSome size IsSizeText → MeansApply program deck change size
   unfolding clap_on_literals every

@@ -1,6 +1,6 @@
 -- Words that name `run`, a deck, a script, change decks and an option plainly.
 use Rattle.std.proofs.Common.{◌≡◌, ◌++◌, ℕ, List, [], ◌∷◌, Option, Some, None, IfSome, append_assoc, codes, map, refl}
-use Rattle.std.proofs.Common.{ap, subst, false}
+use Rattle.std.proofs.Common.{ap, subst}
 use Rattle.std.specs.List.{AllByRecursion as ByRecursion}
 use Rattle.std.proofs.lemmas.List.Elements.{recursion_from_All}
 use Rattle.clap.specs.Kinds.{Kinds, or_else}
@@ -10,10 +10,9 @@ use Rattle.clap.specs.Words.{Row, Text}
 use Rattle.clap.specs.declared.builder.value_parser.Reading.TheVariants.{AsWritten}
 use Rattle.clap.specs.declared.parser.matches.ValueSource.TheVariants.{CommandLine}
 use Rattle.clap.proofs.OnLiterals.{clap_on_literals}
-use Rattle.iocm_lines.specs.declared.form.Form.TheVariants as form
 use Rattle.iocm_values.specs.Reading.{◌>>=◌}
 use Rattle.iocm_command.specs.CommandLine.{Stated, run, IsSizeText}
-use Rattle.iocm_command.specs.Plain.{IsPlainName, Mean, RunsAreMeant, heap_meant, heap_words}
+use Rattle.iocm_command.specs.Plain.{IsPlainName, Mean, RunsAreMeant, heap_meant, heap_words, plainly}
 use Rattle.iocm_command.specs.Program.{command_app, run_row}
 use Rattle.iocm_command.proofs.Plain.{heap_said, no_fault, size_is_plain}
 use Rattle.iocm_command.proofs.PlainWalk.{ArePlain, Asks, Leaf, Said, is_read, plain, text_of}
@@ -48,7 +47,7 @@ module _ (deck script : Text) where
 
   abbrev asked : List Text → Option ℕ → Option Stated
   asked changes size = ((size >>= λ n. Some (Some n)) >>= λ heap. Some (run deck script changes heap)) >>= λ command.
-      Some (record { command = command; form = form.Text; quiet = false })
+      Some (plainly command)
 
   -- after the last one
   last_asks : (seen : List Text) (last : Text) (size : Option Text) → IfSome size IsSizeText

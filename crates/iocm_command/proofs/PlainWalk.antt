@@ -15,9 +15,8 @@ use Rattle.clap.specs.Words.{Kinds, Row, Text, fault_of, subcommand_of}
 use Rattle.clap.proofs.FaultLemmas.{stopped_fault}
 use Rattle.clap.proofs.OnLiterals.{clap_on_literals}
 use Rattle.clap.proofs.WalkLemmas.{walk_stopped}
-use Rattle.iocm_lines.specs.declared.form.Form.TheVariants as form
 use Rattle.iocm_command.specs.CommandLine.{Meant, meant_by, outcome, understood_in}
-use Rattle.iocm_command.specs.Plain.{IsPlainName, Mean}
+use Rattle.iocm_command.specs.Plain.{IsPlainName, Mean, plainly}
 use Rattle.iocm_command.specs.Program.{iocm_app}
 
 abbrev pub top : Shape
@@ -121,7 +120,7 @@ mistakes_by s walked end = or_else walked (or_else (settle_fault s.rules s.args_
 abbrev pub Asks : Shape → Walk → List Said → Meant → Type 0
 Asks s w words command = (mistakes_by s (faults s w words) (fold (goes s.rules) w words).held ≡ [])
     × (understood_in (Some (s.name, finished s.rules (fold (goes s.rules) w words).held))
-    ≡ Some (record { command = command; form = form.Text; quiet = false }))
+    ≡ Some (plainly command))
 
 -- ---- a command and its words
 

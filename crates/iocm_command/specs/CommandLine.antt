@@ -18,16 +18,17 @@ use Rattle.iocm_values.specs.Reading.{◌>>=◌}
 use Rattle.iocm_filter.specs.Wanted.{Wanted}
 use Rattle.iocm_filter.specs.Misread.{misread_of}
 use Rattle.iocm_filter.specs.Words.{Asking, filters_of}
-use Rattle.iocm_reports.specs.declared.report.Report.{Report}
-use Rattle.iocm_reports.specs.declared.report.Report.TheVariants.{Table, WayBack, Altered, Count, Deck, Test}
 use Rattle.iocm_command.specs.Program.{heap_parser, iocm_app}
+use Rattle.iocm_command.specs.declared.report.PlanScope.{PlanScope}
+use Rattle.iocm_command.specs.declared.report.Report.{Report}
+use Rattle.iocm_command.specs.declared.report.Report.TheVariants.{Table, WayBack, Altered, Count, Deck, Test}
 use Rattle.iocm_command.specs.declared.table.Before.{Before}
 use Rattle.iocm_command.specs.declared.table.Before.TheVariants.{LeftOut, Shown}
 use Rattle.iocm_command.specs.declared.table.Breaches.{Breaches}
 use Rattle.iocm_command.specs.declared.table.Breaches.TheVariants.{First, All}
 use Rattle.iocm_command.specs.declared.table.Command.{Command}
-use Rattle.iocm_command.specs.declared.table.Command.TheVariants.{Check, Show, List as ListOf, Write, Diff, Vary, Apply}
-use Rattle.iocm_command.specs.declared.table.Command.TheVariants.{Run, Explain}
+use Rattle.iocm_command.specs.declared.table.Command.TheVariants.{Check, Show, List as ListOf, Write, Diff, Plan, Vary}
+use Rattle.iocm_command.specs.declared.table.Command.TheVariants.{Apply, PlanChange, Run, Explain}
 use Rattle.iocm_command.specs.declared.table.Listed.{Listed}
 use Rattle.iocm_command.specs.declared.table.Listed.TheVariants.{Images, Paths, Units, Devices}
 use Rattle.iocm_command.specs.declared.command.Understood.{Understood}
@@ -41,16 +42,20 @@ pub data Meant : Type 0 where
   list : Listed → Text → Wanted → Meant
   write : Text → Meant
   diff : Text → Text → Before → Meant
+  plan : Text → Text → PlanScope → Wanted → Meant
   vary : Text → Varied → Wanted → Meant
   apply : Text → Text → Option ℕ → Report → Wanted → Meant
+  plan_change : Text → Text → Option ℕ → PlanScope → Wanted → Meant
   run : Text → Text → List Text → Option ℕ → Meant
   explain : List Text → Meant
 
--- with the form in which it is printed, and whether standard error is to be quiet
+-- with the form in which it is printed, whether standard error is to be quiet, and whether the exit status is to say
+-- that something is told
 pub record Stated : Type 0 where
   pub command : Meant
   pub form : Form
   pub quiet : Bool
+  pub exit_code : Bool
 
 -- the files that it has, the deck first
 abbrev pub files_of : Meant → List Text
@@ -59,15 +64,18 @@ files_of (show deck filters) = deck ∷ []
 files_of (list listed deck filters) = deck ∷ []
 files_of (write deck) = deck ∷ []
 files_of (diff old new before) = old ∷ new ∷ []
+files_of (plan old new scope filters) = old ∷ new ∷ []
 files_of (vary deck to filters) = deck ∷ []
 files_of (apply deck change heap report filters) = deck ∷ change ∷ []
+files_of (plan_change deck change heap scope filters) = deck ∷ change ∷ []
 files_of (run deck script changes heap) = deck ∷ script ∷ changes
 files_of (explain rules) = []
 
--- what is asked for of a deck that nothing changes
+-- what is asked for of decks that nothing changes
 abbrev pub filters_of_deck : Meant → Option Wanted
 filters_of_deck (show deck filters) = Some filters
 filters_of_deck (list listed deck filters) = Some filters
+filters_of_deck (plan old new scope filters) = Some filters
 filters_of_deck (vary deck to filters) = Some filters
 filters_of_deck _ = None
 
@@ -79,13 +87,16 @@ meant_of (Show deck filters) = show deck.now filters
 meant_of (ListOf listed deck filters) = list listed deck.now filters
 meant_of (Write deck) = write deck.now
 meant_of (Diff old new before) = diff old.now new.now before
+meant_of (Plan old new scope filters) = plan old.now new.now scope filters
 meant_of (Vary deck to filters) = vary deck.now to filters
 meant_of (Apply deck change heap report filters) = apply deck.now change.now heap report filters
+meant_of (PlanChange deck change heap scope filters) = plan_change deck.now change.now heap scope filters
 meant_of (Run deck script changes heap) = run deck.now script.now (texts changes.items) heap
 meant_of (Explain rules) = explain (texts rules.items)
 
 abbrev pub understood_of : Understood → Stated
-understood_of u = record { command = meant_of u.command; form = u.form; quiet = u.quiet }
+understood_of u =
+    record { command = meant_of u.command; form = u.form; quiet = u.quiet; exit_code = u.exit_code }
 
 -- ---- what is found under the arguments of a command
 
@@ -134,20 +145,33 @@ breaches_in rows = if is_given (codes "all") rows then All else First
 abbrev pub before_in : List Row → Before
 before_in rows = if is_given (codes "old") rows then Shown else LeftOut
 
--- the report that flags ask for, of which one is given at the most: `--undo`, `--altered`, `--count`,
--- `--deck` and `--test`
-abbrev pub report_of : Bool → Bool → Bool → Bool → Bool → Option Report
-report_of false false false false false = Some Table
-report_of true false false false false = Some WayBack
-report_of false true false false false = Some Altered
-report_of false false true false false = Some Count
-report_of false false false true false = Some Deck
-report_of false false false false true = Some Test
-report_of _ _ _ _ _ = None
+-- the report that is asked for so far, or one more; not both
+abbrev pub one_more : Option Report → Bool → Report → Option (Option Report)
+one_more so_far false report = Some so_far
+one_more None true report = Some (Some report)
+one_more (Some other) true report = None
+
+-- the report that flags ask for, of which one is given at the most; the table where none is
+abbrev pub report_given : List Row → Option (Option Report)
+report_given rows =
+    one_more None (is_given (codes "undo") rows) WayBack >>= λ r. one_more r (is_given (codes "altered") rows) Altered
+    >>= λ r. one_more r (is_given (codes "count") rows) Count >>= λ r. one_more r (is_given (codes "deck") rows) Deck
+    >>= λ r. one_more r (is_given (codes "test") rows) Test
 
 abbrev pub report_in : List Row → Option Report
-report_in rows = report_of (is_given (codes "undo") rows) (is_given (codes "altered") rows)
-    (is_given (codes "count") rows) (is_given (codes "deck") rows) (is_given (codes "test") rows)
+report_in rows = report_given rows >>= λ r. Some (unwrap_or r Table)
+
+abbrev pub has_report : List Row → Bool
+has_report rows = is_given (codes "undo") rows || (is_given (codes "altered") rows
+    || (is_given (codes "count") rows || (is_given (codes "deck") rows || is_given (codes "test") rows)))
+
+-- how much of a plan is asked for, and whether part of one is
+abbrev pub scope_in : List Row → PlanScope
+scope_in rows = record { is_brief = is_given (codes "brief") rows; is_lost = is_given (codes "lost") rows }
+
+abbrev pub has_plan_words : List Row → Bool
+has_plan_words rows =
+    is_given (codes "brief") rows || (is_given (codes "exit-code") rows || is_given (codes "lost") rows)
 
 -- the words of filters, and what they ask for, if all have their forms
 abbrev pub filter_words_in : List Row → Asking
@@ -193,6 +217,11 @@ abbrev pub diff_in : List Row → Option Meant
 diff_in rows =
     first_of (codes "OLD") rows >>= λ old. first_of (codes "NEW") rows >>= λ new. Some (diff old new (before_in rows))
 
+abbrev pub plan_in : List Row → Option Meant
+plan_in rows =
+    first_of (codes "OLD") rows >>= λ old. first_of (codes "NEW") rows >>= λ new. filters_in rows >>= λ filters.
+    Some (plan old new (scope_in rows) filters)
+
 -- what becomes of the paths of `vary`
 abbrev pub varied_by : Text → Option Varied
 varied_by state =
@@ -207,11 +236,21 @@ vary_in rows =
     first_of (codes "DECK") rows >>= λ deck. varied_in rows >>= λ to. filters_in rows >>= λ filters.
     Some (vary deck to filters)
 
-abbrev pub apply_in : List Row → Option Meant
-apply_in rows =
-    first_of (codes "DECK") rows >>= λ deck. first_of (codes "CHANGE") rows >>= λ change.
+-- a plan is a report of its own, as text alone, and part of one is asked for with it alone
+abbrev pub change_in : List Row → Option Meant
+change_in rows = if has_plan_words rows then None
+    else (first_of (codes "DECK") rows >>= λ deck. first_of (codes "CHANGE") rows >>= λ change.
     heap_in rows >>= λ heap. report_in rows >>= λ report. filters_in rows >>= λ filters.
-    Some (apply deck change heap report filters)
+    Some (apply deck change heap report filters))
+
+abbrev pub plan_change_in : List Row → Option Meant
+plan_change_in rows = if has_report rows || is_given (codes "json") rows then None
+    else (first_of (codes "DECK") rows >>= λ deck. first_of (codes "CHANGE") rows >>= λ change.
+    heap_in rows >>= λ heap. filters_in rows >>= λ filters.
+    Some (plan_change deck change heap (scope_in rows) filters))
+
+abbrev pub apply_in : List Row → Option Meant
+apply_in rows = if is_given (codes "plan") rows then plan_change_in rows else change_in rows
 
 abbrev pub run_in : List Row → Option Meant
 run_in rows =
@@ -229,16 +268,24 @@ command_in name rows =
     else (if bytes_eq name (codes "list") then list_in rows
     else (if bytes_eq name (codes "write") then write_in rows
     else (if bytes_eq name (codes "diff") then diff_in rows
+    else (if bytes_eq name (codes "plan") then plan_in rows
     else (if bytes_eq name (codes "vary") then vary_in rows
     else (if bytes_eq name (codes "apply") then apply_in rows
     else (if bytes_eq name (codes "run") then run_in rows
-    else (if bytes_eq name (codes "explain") then explain_in rows else None))))))))
+    else (if bytes_eq name (codes "explain") then explain_in rows else None)))))))))
 
 -- what the command that the words name asks for
+abbrev pub stated_in : List Row → Meant → Stated
+stated_in rows command = record {
+  command = command;
+  form = form_in rows;
+  quiet = is_given (codes "quiet") rows;
+  exit_code = is_given (codes "exit-code") rows;
+}
+
 abbrev pub understood_in : Option (Text × List Row) → Option Stated
 understood_in None = None
-understood_in (Some named) = command_in named.0 named.1 >>= λ command.
-    Some (record { command = command; form = form_in named.1; quiet = is_given (codes "quiet") named.1 })
+understood_in (Some named) = command_in named.0 named.1 >>= λ command. Some (stated_in named.1 command)
 
 -- a value has another form: the state of paths, what is listed, or that of a filter
 abbrev pub is_misread_state : List Row → Bool
@@ -259,7 +306,8 @@ is_misread named = option_map_or (λ command. is_misread_in command.1) named fal
 abbrev pub mistakes : List Text → Kinds
 mistakes words = fault_of iocm_app words
 
--- if clap finds none and the words mean nothing: a value has another form, or there are two reports
+-- if clap finds none and the words mean nothing: a value has another form, or there are two reports, or part of a
+-- plan that isn't asked for
 abbrev pub others : Bool → Kinds
 others true = ValueValidation ∷ []
 others false = ArgumentConflict ∷ []

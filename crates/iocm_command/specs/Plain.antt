@@ -5,18 +5,23 @@ use Rattle.std.specs.List.{All}
 use Rattle.clap.specs.Words.{Text}
 use Rattle.iocm_filter.specs.Wanted.{nothing}
 use Rattle.iocm_lines.specs.declared.form.Form.TheVariants as form
-use Rattle.iocm_reports.specs.declared.report.Report.{Report}
-use Rattle.iocm_reports.specs.declared.report.Report.TheVariants.{Table, WayBack}
-use Rattle.iocm_command.specs.CommandLine.{Meant, apply, check, commanded, number_of, run, show, write, IsSizeText}
+use Rattle.iocm_command.specs.CommandLine.{Meant, Stated, apply, check, commanded, number_of, run, show, write}
+use Rattle.iocm_command.specs.CommandLine.{IsSizeText}
+use Rattle.iocm_command.specs.declared.report.Report.{Report}
+use Rattle.iocm_command.specs.declared.report.Report.TheVariants.{Table, WayBack}
 use Rattle.iocm_command.specs.declared.table.Breaches.TheVariants.{First}
 
 -- a name that doesn't begin with a hyphen
 abbrev pub IsPlainName : Text → Type 0
 IsPlainName name = (first : ℕ) × (rest : List ℕ) × (name ≡ first ∷ rest) × ((first == 45) ≡ false)
 
--- the words mean this command, printed as text, and standard error isn't quiet
+-- the command, printed as text; standard error isn't quiet, and the exit status says nothing of what is told
+abbrev pub plainly : Meant → Stated
+plainly command = record { command = command; form = form.Text; quiet = false; exit_code = false }
+
+-- the words mean this command, plainly
 abbrev pub Mean : List Text → Meant → Type 0
-Mean words command = commanded words ≡ Ok (record { command = command; form = form.Text; quiet = false })
+Mean words command = commanded words ≡ Ok (plainly command)
 
 -- `check`, `show` and `write` with the name of a deck
 abbrev pub DecksAreMeant : Type 0

@@ -71,7 +71,16 @@ write_row = (codes "write", quiet ∷ json ∷ deck ∷ [])
 abbrev pub diff_row : Text × List (Text × Form)
 diff_row = (
   codes "diff",
-  quiet ∷ json ∷ (codes "OLD", File) ∷ (codes "NEW", File) ∷ (codes "old", Flag) ∷ [],
+  quiet ∷ json ∷ (codes "OLD", File) ∷ (codes "NEW", File) ∷ (codes "old", Flag)
+      ∷ (codes "exit-code", Flag) ∷ [],
+)
+
+abbrev pub plan_row : Text × List (Text × Form)
+plan_row = (
+  codes "plan",
+  quiet ∷ (codes "OLD", File) ∷ (codes "NEW", File) ∷ (codes "brief", Flag) ∷ (codes "exit-code", Flag)
+      ∷ (codes "lost", Flag) ∷ (codes "image", Filter) ∷ (codes "device", Filter) ∷ (codes "unit", Filter)
+      ∷ (codes "path", Filter) ∷ [],
 )
 
 abbrev pub vary_row : Text × List (Text × Form)
@@ -84,7 +93,8 @@ abbrev pub apply_row : Text × List (Text × Form)
 apply_row = (
   codes "apply",
   quiet ∷ json ∷ deck ∷ (codes "CHANGE", File) ∷ heap ∷ (codes "undo", Flag) ∷ (codes "altered", Flag)
-      ∷ (codes "count", Flag) ∷ (codes "deck", Flag) ∷ (codes "test", Flag) ∷ filters,
+      ∷ (codes "count", Flag) ∷ (codes "deck", Flag) ∷ (codes "test", Flag) ∷ (codes "plan", Flag)
+      ∷ (codes "brief", Flag) ∷ (codes "exit-code", Flag) ∷ (codes "lost", Flag) ∷ filters,
 )
 
 abbrev pub run_row : Text × List (Text × Form)
@@ -93,8 +103,15 @@ run_row = (codes "run", quiet ∷ json ∷ deck ∷ (codes "SCRIPT", File) ∷ (
 abbrev pub explain_row : Text × List (Text × Form)
 explain_row = (codes "explain", (codes "RULE", Words) ∷ [])
 
-abbrev pub commands : List (Text × List (Text × Form))
-commands = check_row ∷ show_row ∷ list_row ∷ write_row ∷ diff_row ∷ vary_row ∷ apply_row ∷ run_row ∷ explain_row ∷ []
+-- of decks alone, of changes, and others
+abbrev pub of_decks : List (Text × List (Text × Form))
+of_decks = check_row ∷ show_row ∷ list_row ∷ write_row ∷ []
+
+abbrev pub of_changes : List (Text × List (Text × Form))
+of_changes = diff_row ∷ plan_row ∷ vary_row ∷ apply_row ∷ []
+
+abbrev pub others : List (Text × List (Text × Form))
+others = run_row ∷ explain_row ∷ []
 
 -- a command with one more argument, and a command of the table
 abbrev pub with_argument : App → Text × Form → App
@@ -118,4 +135,4 @@ abbrev pub with_command : App → Text × List (Text × Form) → App
 with_command app c = with_subcommand app (command_app c).top
 
 abbrev pub iocm_app : App
-iocm_app = fold with_command bare_app commands
+iocm_app = fold with_command (fold with_command (fold with_command bare_app of_decks) of_changes) others

@@ -21,11 +21,14 @@ pub struct Understood<'a> {
     pub form: Form,
     /// Whether standard error isn't to say from where a refusal comes.
     pub quiet: bool,
+    /// Whether the exit status is to say that something is told.
+    pub exit_code: bool,
 }
 
-/// What is said where several reports of a change are asked for.
+/// What is said if several reports of a change are asked for, or part of a plan that isn't.
 const TWO_REPORTS: &str =
-    "only one of '--undo', '--altered', '--count', '--deck' and '--test' can be used";
+    "only one of '--undo', '--altered', '--count', '--deck', '--test' and '--plan' can be \
+    used, '--plan' without '--json', and '--brief', '--exit-code' and '--lost' with '--plan' alone";
 
 /// The command of the words of a command line, of which the first is the program's name.
 ///

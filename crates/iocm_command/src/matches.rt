@@ -8,17 +8,17 @@ ghost use Rattle.iocm_command.specs.CommandLine as meaning;
 ghost use Rattle.iocm_command.specs.CommandLine.{GivesSize, IsSizeText, meant_of, rows_in, understood_of, values_under};
 
 use crate::argument::{LARGEST_HEAP, LEAST_HEAP};
-use crate::{Before, Breaches, Command, Listed, Understood, Varied};
+use crate::changes::{apply_in, diff_in, plan_in};
+use crate::{Breaches, Command, Listed, Understood, Varied};
 use clap::ArgMatches;
 use iocm_filter::{FilterWords, Filters, Misread};
 use iocm_lines::Form;
-use iocm_reports::Report;
 use iocm_statements::Unread;
 use std::alloc::{AllocError, Global};
 use std::fmt;
 
 /// The value of an argument.
-fn value_of<'a>(found: &ArgMatches<'a>, argument: &str) -> Result<&'a str, Unread>
+pub(crate) fn value_of<'a>(found: &ArgMatches<'a>, argument: &str) -> Result<&'a str, Unread>
     ensures { Reads (λ v. v.now) result (first_of argument.now (rows_in found.now)) }
 {
     match found.get_str(argument) {
@@ -49,7 +49,7 @@ fn values_of<'a>(
 }
 
 /// Whether a flag is given.
-fn is_given(found: &ArgMatches<'_>, flag: &str) -> bool
+pub(crate) fn is_given(found: &ArgMatches<'_>, flag: &str) -> bool
     ensures { result ≡ meaning.is_given flag.now (rows_in found.now) }
 {
     match found.get_str(flag) {
@@ -77,7 +77,7 @@ fn heap_size(text: &str) -> Option<u32>
 }
 
 /// The size of the heap that change trees are read in, if one is given.
-fn heap_in(found: &ArgMatches<'_>) -> Result<Option<u32>, Unread>
+pub(crate) fn heap_in(found: &ArgMatches<'_>) -> Result<Option<u32>, Unread>
     ensures { Reads (λ size. size) result (meaning.heap_in (rows_in found.now)) }
 {
     let Some(text) = found.get_str("heap") else {
@@ -100,17 +100,6 @@ fn breaches_in(found: &ArgMatches<'_>) -> Breaches
     }
 }
 
-/// Whether what was there before is asked for.
-fn before_in(found: &ArgMatches<'_>) -> Before
-    ensures { result ≡ meaning.before_in (rows_in found.now) }
-{
-    if is_given(found, "old") {
-        Before::Shown
-    } else {
-        Before::LeftOut
-    }
-}
-
 /// The form in which is printed.
 fn form_in(found: &ArgMatches<'_>) -> Form
     ensures { result ≡ meaning.form_in (rows_in found.now) }
@@ -120,39 +109,6 @@ fn form_in(found: &ArgMatches<'_>) -> Form
     } else {
         Form::Text
     }
-}
-
-/// The report that flags ask for, of which one is given at the most.
-fn report_of(
-    back: bool,
-    altered: bool,
-    count: bool,
-    deck: bool,
-    test: bool,
-) -> Result<Report, Unread>
-    ensures { Reads (λ r. r) result (meaning.report_of back altered count deck test) }
-{
-    match (back, altered, count, deck, test) {
-        (false, false, false, false, false) => Ok(Report::Table),
-        (true, false, false, false, false) => Ok(Report::WayBack),
-        (false, true, false, false, false) => Ok(Report::Altered),
-        (false, false, true, false, false) => Ok(Report::Count),
-        (false, false, false, true, false) => Ok(Report::Deck),
-        (false, false, false, false, true) => Ok(Report::Test),
-        _ => Err(Unread::Malformed),
-    }
-}
-
-/// The report that the flags of `apply` ask for.
-fn report_in(found: &ArgMatches<'_>) -> Result<Report, Unread>
-    ensures { Reads (λ r. r) result (meaning.report_in (rows_in found.now)) }
-{
-    let back = is_given(found, "undo");
-    let altered = is_given(found, "altered");
-    let count = is_given(found, "count");
-    let deck = is_given(found, "deck");
-    let test = is_given(found, "test");
-    report_of(back, altered, count, deck, test)
 }
 
 /// The words of filters.
@@ -169,7 +125,7 @@ fn filter_words<'m, 'a>(found: &'m ArgMatches<'a>) -> FilterWords<'m, 'a>
 }
 
 /// The filters, if all have their forms.
-fn filters_in(alloc: Global, found: &ArgMatches<'_>) -> Result<Filters, Unread>
+pub(crate) fn filters_in(alloc: Global, found: &ArgMatches<'_>) -> Result<Filters, Unread>
     ensures { Reads (λ f. f) result (meaning.filters_in (rows_in found.now)) }
 {
     Filters::of_words(alloc, &filter_words(found))
@@ -311,16 +267,6 @@ fn write_in<'a>(found: &ArgMatches<'a>) -> Result<Command<'a>, Unread>
     Ok(Command::Write { deck })
 }
 
-/// What `diff` asks for.
-fn diff_in<'a>(found: &ArgMatches<'a>) -> Result<Command<'a>, Unread>
-    ensures { Reads meant_of result (meaning.diff_in (rows_in found.now)) }
-{
-    let old = value_of(found, "OLD")?;
-    let new = value_of(found, "NEW")?;
-    let before = before_in(found);
-    Ok(Command::Diff { old, new, before })
-}
-
 /// What becomes of paths by a word.
 fn varied_by(word: &str) -> Option<Varied>
     ensures { result ≡ meaning.varied_by word.now }
@@ -347,24 +293,6 @@ fn vary_in<'a>(alloc: Global, found: &ArgMatches<'a>) -> Result<Command<'a>, Unr
     let to = varied_in(found)?;
     let filters = filters_in(alloc, found)?;
     Ok(Command::Vary { deck, to, filters })
-}
-
-/// What `apply` asks for.
-fn apply_in<'a>(alloc: Global, found: &ArgMatches<'a>) -> Result<Command<'a>, Unread>
-    ensures { Reads meant_of result (meaning.apply_in (rows_in found.now)) }
-{
-    let deck = value_of(found, "DECK")?;
-    let change = value_of(found, "CHANGE")?;
-    let heap = heap_in(found)?;
-    let report = report_in(found)?;
-    let filters = filters_in(alloc, found)?;
-    Ok(Command::Apply {
-        deck,
-        change,
-        heap,
-        report,
-        filters,
-    })
 }
 
 /// What `run` asks for.
@@ -401,6 +329,7 @@ fn command_in<'a>(alloc: Global, name: &str, found: &ArgMatches<'a>) -> Result<C
         "list" => list_in(alloc, found),
         "write" => write_in(found),
         "diff" => diff_in(found),
+        "plan" => plan_in(alloc, found),
         "vary" => vary_in(alloc, found),
         "apply" => apply_in(alloc, found),
         "run" => run_in(alloc, found),
@@ -420,11 +349,13 @@ pub(crate) fn understood_in<'a>(
         Some((name, found)) => {
             let form = form_in(found);
             let quiet = is_given(found, "quiet");
+            let exit_code = is_given(found, "exit-code");
             match command_in(alloc, name, found) {
                 Ok(command) => Ok(Understood {
                     command,
                     form,
                     quiet,
+                    exit_code,
                 }),
                 Err(why) => Err(why),
             }

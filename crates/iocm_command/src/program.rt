@@ -4,17 +4,31 @@ ghost use Rattle.iocm_command.specs.Program as meaning;
 ghost use Rattle.iocm_command.specs.Program.{has_globals};
 
 use crate::argument::Argument;
-use crate::table::{COMMANDS, Row};
+use crate::table::{OF_CHANGES, OF_DECKS, OTHERS, Row};
 use std::alloc::{AllocError, Global};
 
 /// The version of the program, which `--version` prints.
 const VERSION: &str = "0.4.0";
 
-/// The commands.
-fn commands() -> &'static [Row<'static>]
-    ensures { map meaning.seen_row result.now ≡ meaning.commands }
+/// The commands of decks alone.
+fn of_decks() -> &'static [Row<'static>]
+    ensures { map meaning.seen_row result.now ≡ meaning.of_decks }
 {
-    &COMMANDS
+    &OF_DECKS
+}
+
+/// The commands of changes.
+fn of_changes() -> &'static [Row<'static>]
+    ensures { map meaning.seen_row result.now ≡ meaning.of_changes }
+{
+    &OF_CHANGES
+}
+
+/// The other commands.
+fn others() -> &'static [Row<'static>]
+    ensures { map meaning.seen_row result.now ≡ meaning.others }
+{
+    &OTHERS
 }
 
 /// A command that takes these arguments too.
@@ -73,8 +87,10 @@ pub(crate) fn iocm<'a>(alloc: Global) -> Result<clap::Command<'a>, AllocError>
         .about("Reads I/O configuration decks of a mainframe channel subsystem")
         .after_help(
             "Exit status: 0 done; 1 refused, for the reason on standard output; 2 command line not understood; \
-             3 a file cannot be read or the output cannot be written.",
+             3 a file cannot be read or the output cannot be written; 4 something is told, of --exit-code.",
         )
         .subcommand_required(true);
-    with_commands(alloc, program, commands())
+    let program = with_commands(alloc, program, of_decks())?;
+    let program = with_commands(alloc, program, of_changes())?;
+    with_commands(alloc, program, others())
 }

@@ -6,8 +6,8 @@ ghost use Rattle.clap.specs.Walk.{texts};
 ghost use Rattle.iocm_command.specs.CommandLine.{files_of, filters_of_deck, meant_of};
 
 use crate::argument::{Argument, Form};
+use crate::report::{PlanScope, Report};
 use iocm_filter::Filters;
-use iocm_reports::Report;
 use std::alloc::{AllocError, Global};
 
 /// What a command line asks for: files by their names, and what else a command takes.
@@ -40,6 +40,13 @@ pub enum Command<'a> {
         new: &'a str,
         before: Before,
     },
+    /// Print what leads from one deck to another does to images and devices, of what is asked for.
+    Plan {
+        old: &'a str,
+        new: &'a str,
+        scope: PlanScope,
+        filters: Filters,
+    },
     /// Print the change deck that takes paths of a deck offline for images, or online.
     Vary {
         deck: &'a str,
@@ -53,6 +60,15 @@ pub enum Command<'a> {
         change: &'a str,
         heap: Option<u32>,
         report: Report,
+        filters: Filters,
+    },
+    /// Print what a change deck does to images and devices of a deck, of what is asked for, and activate it nowhere;
+    /// the change tree is read in a heap of so many bytes, if that is given.
+    PlanChange {
+        deck: &'a str,
+        change: &'a str,
+        heap: Option<u32>,
+        scope: PlanScope,
         filters: Filters,
     },
     /// Run a script on the machine of a deck, with change decks in their order; each change tree is
@@ -82,8 +98,12 @@ impl<'a> Command<'a> {
             | Command::List { deck, .. }
             | Command::Write { deck }
             | Command::Vary { deck, .. } => Vec::from_slice(alloc, &[*deck]),
-            Command::Diff { old, new, .. } => Vec::from_slice(alloc, &[*old, *new]),
-            Command::Apply { deck, change, .. } => Vec::from_slice(alloc, &[*deck, *change]),
+            Command::Diff { old, new, .. } | Command::Plan { old, new, .. } => {
+                Vec::from_slice(alloc, &[*old, *new])
+            }
+            Command::Apply { deck, change, .. } | Command::PlanChange { deck, change, .. } => {
+                Vec::from_slice(alloc, &[*deck, *change])
+            }
             Command::Run {
                 deck,
                 script,
@@ -98,13 +118,14 @@ impl<'a> Command<'a> {
         }
     }
 
-    /// What it asks for of its deck, if it has filters and changes nothing.
+    /// What it asks for of its decks, if it has filters and changes nothing.
     pub fn filters(&self) -> Option<&Filters>
         ensures { option_map (λ filters. filters.now) result ≡ filters_of_deck (meant_of self.now) }
     {
         match self {
             Command::Show { filters, .. }
             | Command::List { filters, .. }
+            | Command::Plan { filters, .. }
             | Command::Vary { filters, .. } => Some(filters),
             _ => None,
         }
@@ -164,10 +185,14 @@ pub(crate) struct Row<'a> {
     pub(crate) examples: &'a str,
 }
 
-/// The commands, in the order in which help lists them.
-pub(crate) const COMMANDS: [Row<'static>; 9] = [
-    CHECK, SHOW, LIST, WRITE, DIFF, VARY, APPLY, RUN, EXPLAIN,
-];
+/// The commands of decks alone, in the order in which help lists them.
+pub(crate) const OF_DECKS: [Row<'static>; 4] = [CHECK, SHOW, LIST, WRITE];
+
+/// The commands of changes, which help lists behind those.
+pub(crate) const OF_CHANGES: [Row<'static>; 4] = [DIFF, PLAN, VARY, APPLY];
+
+/// The others.
+pub(crate) const OTHERS: [Row<'static>; 2] = [RUN, EXPLAIN];
 
 const CHECK: Row<'static> = Row {
     name: "check",
@@ -212,8 +237,27 @@ const WRITE: Row<'static> = Row {
 const DIFF: Row<'static> = Row {
     name: "diff",
     about: "Reads two configuration decks and prints the change deck that leads from one to the other",
-    arguments: &[QUIET, JSON, OLD, NEW, BEFORE],
+    arguments: &[QUIET, JSON, OLD, NEW, BEFORE, EXIT_CODE],
     examples: "Examples:\n  iocm diff old.deck new.deck > my.change\n  iocm diff old.deck new.deck --old\n\n\
+               More: docs/CHANGES.md",
+};
+
+const PLAN: Row<'static> = Row {
+    name: "plan",
+    about: "Reads two configuration decks and prints what leads from one to the other does to images and devices",
+    arguments: &[
+        QUIET,
+        OLD,
+        NEW,
+        BRIEF,
+        EXIT_CODE,
+        LOST,
+        PLAN_IMAGE,
+        PLAN_DEVICE,
+        PLAN_UNIT,
+        PLAN_PATH,
+    ],
+    examples: "Examples:\n  iocm plan old.deck new.deck\n  iocm plan old.deck new.deck --lost --exit-code\n\n\
                More: docs/CHANGES.md",
 };
 
@@ -230,8 +274,8 @@ const APPLY: Row<'static> = Row {
     about: "Activates a change deck on the machine of a configuration deck and prints the table afterwards, \
             what was altered, or how to take it back",
     arguments: &[
-        QUIET, JSON, DECK, CHANGE, HEAP, UNDO, ALTERED, COUNT, AFTERWARDS, TEST, IMAGE, DEVICE,
-        UNIT, PATH, ONLINE,
+        QUIET, JSON, DECK, CHANGE, HEAP, UNDO, ALTERED, COUNT, AFTERWARDS, TEST, FORESEEN, BRIEF,
+        EXIT_CODE, LOST, IMAGE, DEVICE, UNIT, PATH, ONLINE,
     ],
     examples: "Examples:\n  iocm apply my.deck my.change --count\n  iocm apply my.deck my.change --undo > back.change\n\n\
                More: docs/CHANGES.md",
@@ -448,6 +492,63 @@ const TEST: Argument<'static> = Argument {
     form: Form::Flag,
     value: "",
     help: "Prints how many subchannels are altered, and nothing else",
+};
+
+const FORESEEN: Argument<'static> = Argument {
+    name: "plan",
+    form: Form::Flag,
+    value: "",
+    help: "Prints what the change does to images and devices, as plan does, in place of the table",
+};
+
+const BRIEF: Argument<'static> = Argument {
+    name: "brief",
+    form: Form::Flag,
+    value: "",
+    help: "Leaves out of a plan what differs in the deck, and the rows of devices",
+};
+
+const EXIT_CODE: Argument<'static> = Argument {
+    name: "exit-code",
+    form: Form::Flag,
+    value: "",
+    help: "Ends with 4 if something is told, and with 0 if nothing is",
+};
+
+const LOST: Argument<'static> = Argument {
+    name: "lost",
+    form: Form::Flag,
+    value: "",
+    help: "Only devices that an image loses, and what was on the way to them",
+};
+
+const PLAN_IMAGE: Argument<'static> = Argument {
+    name: "image",
+    form: Form::Filter,
+    value: "IMAGE",
+    help: "Only what this image sees, and what leads there: 0.2, or LPB; may be given several times",
+};
+
+const PLAN_DEVICE: Argument<'static> = Argument {
+    name: "device",
+    form: Form::Filter,
+    value: "DEVICES",
+    help: "Only these devices, and what leads to them: 1003, 1000-100F, 1.1000-10FF; may be given several times",
+};
+
+const PLAN_UNIT: Argument<'static> = Argument {
+    name: "unit",
+    form: Form::Filter,
+    value: "UNIT",
+    help: "Only devices on this control unit, and what leads there: 1000; may be given several times",
+};
+
+const PLAN_PATH: Argument<'static> = Argument {
+    name: "path",
+    form: Form::Filter,
+    value: "PATH",
+    help: "Only devices with this path, and what leads there: 0.50, or 50 of every channel subsystem; may be given \
+           several times",
 };
 
 const SCRIPT: Argument<'static> = Argument {

@@ -17,7 +17,7 @@ use Rattle.iocm_command.specs.declared.table.Before.TheVariants as before
 use Rattle.iocm_console.specs.Shown.{Shown, done}
 use Rattle.iocm_deck_writer.specs.Canonical.{canonical_deck}
 use Rattle.iocm_reports.specs.Deck.{deck_text}
-use Rattle.iocm_reports.specs.declared.report.Report.TheVariants.{Deck}
+use Rattle.iocm_command.specs.declared.report.Report.TheVariants.{Deck}
 use Rattle.iocm_answer.specs.Commands.Apply.{applied, made}
 use Rattle.iocm_answer.specs.Asked.{Question}
 use Rattle.iocm_answer.specs.Manner.{as_text}

@@ -7,7 +7,7 @@ use Rattle.iocm_filter.specs.Wanted.{Wanted}
 use Rattle.iocm_command.specs.declared.table.Before.{Before}
 use Rattle.iocm_console.specs.Refusal.{of_change}
 use Rattle.iocm_console.specs.Shown.{Shown, done}
-use Rattle.iocm_reports.specs.declared.report.Report.TheVariants.{Deck}
+use Rattle.iocm_command.specs.declared.report.Report.TheVariants.{Deck}
 use Rattle.iocm_answer.specs.Manner.{as_text, refused}
 use Rattle.iocm_answer.specs.Commands.Apply.{applied}
 use Rattle.iocm_answer.specs.Commands.Diff.{count_between, differed, text_between}

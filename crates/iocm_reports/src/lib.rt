@@ -23,7 +23,6 @@ mod laws;
 mod lines;
 mod memory;
 mod remarks;
-mod report;
 
 pub use altered::{altered_rows, count_altered};
 pub use back::way_back;
@@ -35,4 +34,3 @@ pub use laws::{
     rows_lead_to_the_table,
 };
 pub use lines::write_altered;
-pub use report::Report;

@@ -1,5 +1,5 @@
 -- What `apply` prints of a deck and a change deck.
-use Rattle.std.specs.Prelude.{ℕ, Bool, false, ◌||◌, List, ◌++◌, filter, Option, Result, Ok, Err}
+use Rattle.std.specs.Prelude.{⊤, ℕ, Bool, false, ◌||◌, List, ◌++◌, filter, Option, Result, Ok, Err}
 use Rattle.std.specs.FinMap.{len}
 use Rattle.std.specs.Option.{option_map_or}
 use Rattle.iocm_types.specs.declared.sub_id.SubId.{SubId}
@@ -8,7 +8,7 @@ use Rattle.iocm_model.specs.Machine.Configuration.{Configuration}
 use Rattle.iocm_model.specs.Operation.State.{State, opening_state}
 use Rattle.iocm_model.specs.Change.Edit.{Edit}
 use Rattle.iocm_model.specs.Change.InverseTree.{inverse_tree}
-use Rattle.iocm_model.specs.Change.Meaning.{Outcome, meaning}
+use Rattle.iocm_model.specs.Change.Meaning.{Outcome, Performed, meaning}
 use Rattle.iocm_model.specs.Change.Runs.{effect_of}
 use Rattle.iocm_filter.specs.Wanted.{Wanted, asks_nothing, wanted}
 use Rattle.iocm_lines.specs.declared.form.Form.{Form}
@@ -25,8 +25,8 @@ use Rattle.iocm_reports.specs.Altered.{altered_rows}
 use Rattle.iocm_reports.specs.Change.{change_in}
 use Rattle.iocm_reports.specs.Counts.{counted_in}
 use Rattle.iocm_reports.specs.Deck.{deck_text}
-use Rattle.iocm_reports.specs.declared.report.Report.{Report}
-use Rattle.iocm_reports.specs.declared.report.Report.TheVariants.{Table, WayBack, Altered, Count, Deck, Test}
+use Rattle.iocm_command.specs.declared.report.Report.{Report}
+use Rattle.iocm_command.specs.declared.report.Report.TheVariants.{Table, WayBack, Altered, Count, Deck, Test}
 use Rattle.iocm_reports.specs.Lines.{altered_in}
 use Rattle.iocm_reports.specs.WayBack.{way_back_in}
 use Rattle.iocm_answer.specs.Asked.{Question}
@@ -75,11 +75,20 @@ reported m Count w es s t = counted_in m.form (count_altered es s) (wanted_rows 
 reported m Deck w es s t = filed_in m.form t.config
 reported m Test w es s t = change_in m.form (count_altered es s)
 
+-- a report isn't the table
+abbrev pub IsNoTable : Report → Type 0
+IsNoTable Table = ⊥
+IsNoTable _ = ⊤
+
+-- what is told of what was performed, or the refusal
+abbrev pub told_or_refused : Manner → (Performed → List ℕ) → Outcome → Shown
+told_or_refused m tell (Ok r) = done (tell r)
+told_or_refused m tell (Err why) = refused m (of_change why)
+
 -- what is printed of what a change tree means in a state: the report of the edits that were
 -- performed, or the refusal
 abbrev pub made : Manner → Question → State → Outcome → Shown
-made m asked s (Ok r) = done (reported m asked.report asked.wanted r.edits s r.state)
-made m asked s (Err why) = refused m (of_change why)
+made m asked s o = told_or_refused m (λ r. reported m asked.report asked.wanted r.edits s r.state) o
 
 -- what is printed of the bytes of a change deck, tried in a state: a fault of the text comes first
 abbrev pub tried : Manner → Question → State → List ℕ → Shown

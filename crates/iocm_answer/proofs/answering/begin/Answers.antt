@@ -1,11 +1,12 @@
 -- The deck of a machine is refused.
-use Rattle.std.proofs.Common.{◌≡◌, ◌⊎◌, ℕ, List, inl, inr, sym, ap, subst}
+use Rattle.std.proofs.Common.{◌≡◌, ◌⊎◌, ℕ, List, false, inl, inr, sym, ap, subst}
 use Rattle.iocm_console.specs.Refusal.{no_memory}
 use Rattle.iocm_console.specs.Opening.{opened_deck}
 use Rattle.iocm_answer.specs.declared.manner.Manner.{Manner}
 use Rattle.iocm_answer.specs.Manner.{refused, shown_or_refused}
 use Rattle.iocm_answer.specs.Commands.{IsMeant, first_text, later_texts}
 use Rattle.iocm_answer.specs.Commands.Apply.{tried}
+use Rattle.iocm_answer.specs.Commands.Plan.{asked_of, change_tried}
 use Rattle.iocm_answer.proofs.Told.{handed, unopened_due}
 use Rattle.iocm_answer.proofs.answering.begin.Goals as goal
 
@@ -21,7 +22,9 @@ returns-in_err-open_machine-in-Apply-clause-refusal c =
         | inl a ↦ subst (λ k. IsMeant m k deck others (refused m why)) (sym a.5)
             (sym (ap (shown_or_refused m
             (λ s. tried m (record { report = a.3; wanted = a.4 }) s (first_text others))) is))
-        | inr r ↦ subst (λ k. IsMeant m k deck others (refused m why)) (sym r.4)
+        | inr (inl p) ↦ subst (λ k. IsMeant m k deck others (refused m why)) (sym p.5)
+            (sym (ap (shown_or_refused m (λ s. change_tried m (asked_of p.3 p.4 false) s (first_text others))) is))
+        | inr (inr r) ↦ subst (λ k. IsMeant m k deck others (refused m why)) (sym r.4)
             (unopened_due m (opened_deck deck) (later_texts others) (first_text others) why is)
       ])
     ]) c.from_residual.ensures

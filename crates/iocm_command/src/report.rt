@@ -14,3 +14,12 @@ pub enum Report {
     /// How many subchannels it altered, and nothing else.
     Test,
 }
+
+/// How much of a plan is told.
+#[derive(Clone, Copy, PartialEq, Eq)]
+pub struct PlanScope {
+    /// Whether objects and rows are left out.
+    pub is_brief: bool,
+    /// Whether only what is lost is told.
+    pub is_lost: bool,
+}

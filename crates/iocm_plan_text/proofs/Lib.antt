@@ -1,0 +1,2 @@
+pub mod OfItself
+pub mod Worked

@@ -1,0 +1,9 @@
+pub mod Asked
+pub mod Counted
+pub mod Examples
+pub mod Laws
+pub mod Limits
+pub mod Notes
+pub mod Sections
+pub mod Summary
+pub mod Whole
