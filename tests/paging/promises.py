@@ -1,7 +1,7 @@
 """The table of marked promises in docs/PROMISES.md: `text()`.
 
-A function is in it if its comment has a line `Promise: ..`, which may go on in the next lines. The names of its clauses are those of its `ensures`. A
-clause without a name is the function's only one.
+A function is in it if its comment has a line `Promise: ..`, which may go on in the next lines. The
+names of its clauses are those of its `ensures`. A clause without a name is the function's only one.
 """
 import re
 

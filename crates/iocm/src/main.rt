@@ -4,16 +4,16 @@
 //! or which rules it breaks; `iocm show DECK` prints the table of its subchannels, `iocm write DECK`
 //! the deck in its canonical order and forms. `iocm diff OLD NEW` prints the change deck that leads
 //! from one deck to another, `iocm plan OLD NEW` what that does to images and devices, and
-//! `iocm vary DECK offline PATH..` the change deck that takes channel paths offline. `iocm apply DECK CHANGE` activates a change deck on the machine of a
-//! configuration deck, and prints how many subchannels it altered and the table afterwards, or
-//! another report. `iocm run DECK SCRIPT CHANGE..` lets images and operators work on the machine of
+//! `iocm vary DECK offline PATH..` the change deck that takes channel paths offline.
+//! `iocm apply DECK CHANGE` activates a change deck on the machine of a configuration deck, and
+//! prints how many subchannels it altered and the table afterwards, or another report. `iocm run DECK SCRIPT CHANGE..` lets images and operators work on the machine of
 //! a configuration deck as a script says, and prints every answer and the table at the end. One file
 //! of a command may be `-`, standard input.
 //!
 //! The exit status is 0 if a command did what it was asked to do, 1 if a text was refused (one line
 //! on standard output says why), 2 if the command line is not understood, and 3 if a file cannot be
-//! read or the output cannot be written (`fault L5` or `fault L6` on standard error). With `--exit-code`
-//! it is 4 if `plan` or `diff` tells something. Beside a
+//! read or the output cannot be written (`fault L5` or `fault L6` on standard error). With
+//! `--exit-code` it is 4 if a plan or `diff` tells something. Beside a
 //! refusal, standard error says from which file and line it comes; with `--quiet` it doesn't.
 //!
 //! A command goes from bytes to an answer and to its text: `commands.rt` reads its files

@@ -2,9 +2,9 @@
 //!
 //! A command is a function from the bytes of its texts to an `Answer`, or to the `Refusal` that says
 //! why there is none: `open_deck` of `iocm_console` or `open_machine` opens the first deck; then
-//! `check`, `show`, `list`, `write`, `diff`, `plan`, `vary`, `apply` and `run` go on. `begin` and `finish` do this for a
-//! command, whichever it is. `print` writes what they give, and is all that writes to standard
-//! output. `carry_out` is a whole command, from readers to a writer.
+//! `check`, `show`, `list`, `write`, `diff`, `plan`, `vary`, `apply` and `run` go on. `begin` and
+//! `finish` do this for a command, whichever it is. `print` writes what they give, and is all that
+//! writes to standard output. `carry_out` is a whole command, from readers to a writer.
 //!
 //! The program above may rely on this: what is printed of an answer is exactly what the definition of
 //! the command says of the bytes, and only lack of memory (M1) may come instead, before the first

@@ -5,9 +5,9 @@
 //! `clap`.
 //!
 //! `table.rt` has the table of the commands: what each takes, and what it asks for. `program.rt` tells
-//! `clap` of it, `matches.rt` reads what `clap` found in the words, and `changes.rt` what is found of a change;
-//! `argument.rt` has the kinds of arguments, and `report.rt` what is printed of a change. `specs/Program.antt` has the table without its help, and `specs/CommandLine.antt` what
-//! words mean. `laws.rt` states what words mean that name a command and its files plainly.
+//! `clap` of it, `matches.rt` reads what `clap` found in the words, and `changes.rt` what it found of a
+//! change. `argument.rt` has the kinds of arguments, and `report.rt` what is printed of a change.
+//! `specs/Program.antt` has the table without its help, and `specs/CommandLine.antt` what words mean. `laws.rt` states what words mean that name a command and its files plainly.
 //!
 //! Begin with `table.rt` and `command.rt`. What names no source is our own.
 #![tactic(auto)]

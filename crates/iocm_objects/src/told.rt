@@ -24,7 +24,8 @@ pub enum Told {
 }
 
 /// What is told of an object with these fields before and after: all fields if it is added or deleted; if it is changed
-/// those that differ, first the fields of before, then those that came. The time of a list of names is that of its length before and after, multiplied.
+/// those that differ, first the fields of before, then those that came. The time of a list of names is that of its
+/// length before and after, multiplied.
 ///
 /// `AllocError` (M1): memory ran out.
 pub fn told_of(

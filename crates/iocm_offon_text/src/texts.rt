@@ -23,7 +23,7 @@ use std::alloc::{AllocError, Global};
 ///
 /// `AllocError` (M1): memory ran out.
 ///
-/// Promise: what a plan tells of paths that go off and on again is told of exactly the paths of another route.
+/// Promise: what a plan tells of paths that go off and on is just what its definition says of the objects that are left.
 pub fn put_offon(
     text: &mut Vec<u8>,
     alloc: Global,
